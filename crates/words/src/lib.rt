@@ -1,0 +1,65 @@
+// Big-endian words and bit fields of a byte slice.
+ghost use mathlib.Core.Path.{_≡_};
+ghost use Prim.Native.Nat.{_+_, _-_, _/_, _^_, _<_, _≤_};
+ghost use lib.ListN.{length, getD};
+ghost use Rattle.format.specs.Bits.{bitsAt};
+ghost use Rattle.words.specs.Word.{wordAt};
+
+fn byte(s: &[u8], i: usize) -> u64
+    requires { ⌜ i < length (now s) ⌝ }
+    ensures { λ r. ⌜ (r ≡ getD (now (s .entry)) i 0) × (r < 256) ⌝ }
+{
+    s[i] as u64
+}
+
+// The eight bytes from i, the first the most significant. A balanced sum is one load of the machine.
+fn load(s: &[u8], i: usize) -> u64
+    requires { ⌜ i + 8 ≤ length (now s) ⌝ }
+    ensures { λ r. ⌜ r ≡ wordAt (now (s .entry)) i ⌝ }
+{
+    ((byte(s, i) * 0x100_0000_0000_0000 + byte(s, i + 1) * 0x1_0000_0000_0000)
+        + (byte(s, i + 2) * 0x100_0000_0000 + byte(s, i + 3) * 0x1_0000_0000))
+        + ((byte(s, i + 4) * 0x100_0000 + byte(s, i + 5) * 0x1_0000)
+            + (byte(s, i + 6) * 0x100 + byte(s, i + 7)))
+}
+
+// The bits from a place on, left aligned: the first 57 of the word are the slice's, and 0 past its end.
+pub fn window(s: &[u8], place: u64) -> u64
+    requires { ⌜ 8 ≤ length (now s) ⌝ }
+    ensures { λ r. ⌜ r / 2 ^ 7 ≡ bitsAt (now (s .entry)) place 57 ⌝ }
+{
+    let last = s.len() - 8;
+    let mut i = (place / 8) as usize;
+    if last < i {
+        i = last;
+    }
+    let k = place - 8 * (i as u64);
+    if 63 < k {
+        return 0;
+    }
+    load(s, i) << k
+}
+
+// The same where eight bytes stand from the place's byte on.
+pub fn whole(s: &[u8], place: u64) -> u64
+    requires { ⌜ place / 8 + 8 ≤ length (now s) ⌝ }
+    ensures { λ r. ⌜ r / 2 ^ 7 ≡ bitsAt (now (s .entry)) place 57 ⌝ }
+{
+    load(s, (place / 8) as usize) << (place % 8)
+}
+
+// The first n bits of a word.
+pub fn top(word: u64, n: u64) -> u64
+    requires { ⌜ n < 64 ⌝ }
+    ensures { λ r. ⌜ r ≡ word / 2 ^ (64 - n) ⌝ }
+{
+    (word >> 1) >> (63 - n)
+}
+
+// The number that n bits from a place on make; past the end of the slice they are 0.
+pub fn field(s: &[u8], at: usize, n: u64) -> usize
+    requires { ⌜ (8 ≤ length (now s)) × (n ≤ 57) ⌝ }
+    ensures { λ r. ⌜ (r ≡ bitsAt (now (s .entry)) at n) × (r < 2 ^ n) ⌝ }
+{
+    top(window(s, at as u64), n) as usize
+}
