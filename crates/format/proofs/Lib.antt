@@ -7,3 +7,8 @@ pub mod PlaceLaws
 pub mod TableLaws
 pub mod Exact
 pub mod T800Laws
+pub mod RefusalLaws
+pub mod Ranges
+pub mod Points
+pub mod Places
+pub mod Theorems
