@@ -12,3 +12,4 @@ pub mod Ranges
 pub mod Points
 pub mod Places
 pub mod Theorems
+pub mod Lengths

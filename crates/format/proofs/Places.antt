@@ -30,8 +30,8 @@ abbrev pub smallRecord : Stretch
 smallRecord =
     record {
       values =
-        negsuc 2999 ∷ pos 1 ∷ negsuc 2046 ∷ pos 4095 ∷ pos 5 ∷ negsuc 5 ∷ negsuc 6 ∷ pos 8
-        ∷ pos 5 ∷ pos 4 ∷ pos 0 ∷ pos 0 ∷ pos 0 ∷ pos 0 ∷ pos 0 ∷ pos 0 ∷ [];
+          negsuc 2999 ∷ pos 1 ∷ negsuc 2046 ∷ pos 4095 ∷ pos 5 ∷ negsuc 5 ∷ negsuc 6 ∷ pos 8
+          ∷ pos 5 ∷ pos 4 ∷ pos 0 ∷ pos 0 ∷ pos 0 ∷ pos 0 ∷ pos 0 ∷ pos 0 ∷ [];
       stopped = 1;
     }
 

@@ -30,7 +30,7 @@ pub data Each (P : ℤ → Type 0) : List ℤ → Type 0 where
   none : Each P []
   more : (x : ℤ) (l : List ℤ) → P x → Each P l → Each P (x ∷ l)
 
-of-cond : {A : Type 0} (P : A → Type 0) (b : Bool) (x y : A) → (b ≡ true → P x) → (b ≡ false → P y) → P (cond b x y)
+pub of-cond : {A : Type 0} (P : A → Type 0) (b : Bool) (x y : A) → (b ≡ true → P x) → (b ≡ false → P y) → P (cond b x y)
 of-cond P true x y f g = f refl
 of-cond P false x y f g = g refl
 
@@ -64,75 +64,75 @@ read-lt s r n =
 
 -- ---- a property of values, signed too, that holds of every coefficient read under a selector that is allowed
 module _
-  (P : ℤ → Type 0)
-  (nought : P (pos 0))
-  (Allowed : ℕ → Type 0)
-  (plain : (u sel : ℕ) → Allowed sel → u < 2 ^ 19 → P (valueOf u sel))
-  (turned : (z : ℤ) → P z → ltZ (pos 0) z ≡ true → P (negℤ z))
-  (s : List ℕ)
+    (P : ℤ → Type 0)
+    (nought : P (pos 0))
+    (Allowed : ℕ → Type 0)
+    (plain : (u sel : ℕ) → Allowed sel → u < 2 ^ 19 → P (valueOf u sel))
+    (turned : (z : ℤ) → P z → ltZ (pos 0) z ≡ true → P (negℤ z))
+    (s : List ℕ)
   where
-  module _ (sel : ℕ) (ok : Allowed sel) where
-    sign-each : (u : ℕ) (r : Reader) → u < 2 ^ 19 → P (signOf s (valueOf u sel) r .value)
-    unfolding signOf
-    sign-each u r h =
-        of-cond (λ (z : Signed). P (z .value)) (ltZ (pos 0) (valueOf u sel)) _ _
-        (λ e. of-cond P (eqb (readOf s r 1 .value) 0) _ _ (λ _. plain u sel ok h) (λ _. turned (valueOf u sel) (plain u sel ok h) e))
-        (λ e. plain u sel ok h)
+    module _ (sel : ℕ) (ok : Allowed sel) where
+      sign-each : (u : ℕ) (r : Reader) → u < 2 ^ 19 → P (signOf s (valueOf u sel) r .value)
+      unfolding signOf
+      sign-each u r h =
+          of-cond (λ (z : Signed). P (z .value)) (ltZ (pos 0) (valueOf u sel)) _ _
+          (λ e. of-cond P (eqb (readOf s r 1 .value) 0) _ _ (λ _. plain u sel ok h) (λ _. turned (valueOf u sel) (plain u sel ok h) e))
+          (λ e. plain u sel ok h)
 
-    group-each : (g : ℕ) (t : Taken) → t .value ≤ 19 → Each P (groupOf s sel g t .values)
-    unfolding groupOf signsOf fourOf
-    group-each g t h =
-        more _ _ (sign-each _ _ (small (t .reader)))
-        (more _ _ (sign-each _ _ (small _)) (more _ _ (sign-each _ _ (small _)) (more _ _ (sign-each _ _ (small _)) none)))
-      where
-        small : (r : Reader) → readOf s r (t .value) .value < 2 ^ 19
-        small r = lt-of-lt-of-le (read-lt s r (t .value)) (pow-mono h)
+      group-each : (g : ℕ) (t : Taken) → t .value ≤ 19 → Each P (groupOf s sel g t .values)
+      unfolding groupOf signsOf fourOf
+      group-each g t h =
+          more _ _ (sign-each _ _ (small (t .reader)))
+          (more _ _ (sign-each _ _ (small _)) (more _ _ (sign-each _ _ (small _)) (more _ _ (sign-each _ _ (small _)) none)))
+        where
+          small : (r : Reader) → readOf s r (t .value) .value < 2 ^ 19
+          small r = lt-of-lt-of-le (read-lt s r (t .value)) (pow-mono h)
 
-    step-each : (rest : ℕ → Taken → Part) → ((g : ℕ) (t : Taken) → Each P (rest g t .values)) → (g : ℕ) (t : Taken) → Each P (rowStep rest s sel g t .values)
-    unfolding rowStep
-    step-each rest f g t =
-        of-cond Q (eqb g 0) _ _ (λ _. none) λ _.
-        of-cond Q (eqb (t .reader .status) 0) _ _
-        (λ _.
-        of-cond Q (leb (t .value) 19) _ _
-        (λ h.
-        of-cond Q (eqb (t .value) 0) _ _ (λ _. let z = zerosOf s g (t .reader) in each-join P nought _ _ (each-zeros P nought (4 * z .groups)) (f (g - z .groups) (record { value = z .width; reader = z .reader })))
-        (λ _. let q = groupOf s sel g t in each-join P nought _ _ (group-each g t (leb-true _ _ h)) (f (g - 1) (record { value = q .width; reader = q .reader }))))
-        (λ _. each-zeros P nought (4 * g)))
-        (λ _. each-zeros P nought (4 * g))
-      where
-        Q : Part → Type 0
-        Q p = Each P (p .values)
+      step-each : (rest : ℕ → Taken → Part) → ((g : ℕ) (t : Taken) → Each P (rest g t .values)) → (g : ℕ) (t : Taken) → Each P (rowStep rest s sel g t .values)
+      unfolding rowStep
+      step-each rest f g t =
+          of-cond Q (eqb g 0) _ _ (λ _. none) λ _.
+          of-cond Q (eqb (t .reader .status) 0) _ _
+          (λ _.
+          of-cond Q (leb (t .value) 19) _ _
+          (λ h.
+          of-cond Q (eqb (t .value) 0) _ _ (λ _. let z = zerosOf s g (t .reader) in each-join P nought _ _ (each-zeros P nought (4 * z .groups)) (f (g - z .groups) (record { value = z .width; reader = z .reader })))
+          (λ _. let q = groupOf s sel g t in each-join P nought _ _ (group-each g t (leb-true _ _ h)) (f (g - 1) (record { value = q .width; reader = q .reader }))))
+          (λ _. each-zeros P nought (4 * g)))
+          (λ _. each-zeros P nought (4 * g))
+        where
+          Q : Part → Type 0
+          Q p = Each P (p .values)
 
-    from-each : (turns g : ℕ) (t : Taken) → Each P (rowFrom s sel turns g t .values)
-    unfolding rowFrom
-    from-each zero g t = none
-    from-each (suc turns) g t = step-each (rowFrom s sel turns) (from-each turns) g t
+      from-each : (turns g : ℕ) (t : Taken) → Each P (rowFrom s sel turns g t .values)
+      unfolding rowFrom
+      from-each zero g t = none
+      from-each (suc turns) g t = step-each (rowFrom s sel turns) (from-each turns) g t
 
-    row-each : (n : ℕ) (r : Reader) → Each P (rowOf s sel n r .values)
-    unfolding rowOf
-    row-each n r = each-take P nought n _ (from-each ((n + 3) / 4) ((n + 3) / 4) _)
+      row-each : (n : ℕ) (r : Reader) → Each P (rowOf s sel n r .values)
+      unfolding rowOf
+      row-each n r = each-take P nought n _ (from-each ((n + 3) / 4) ((n + 3) / 4) _)
 
-  -- n rows from row k on, of kinds · m
-  rows-each : (sel : ℕ → ℕ) (kinds m cols : ℕ) → 0 < m → ((c : ℕ) → c < kinds → Allowed (sel c)) → (n k : ℕ) (r : Reader) → k + n ≤ kinds * m → Each P (rowsOf s sel m cols n k r .values)
-  unfolding rowsOf
-  rows-each sel kinds m cols some ok zero k r h = none
-  rows-each sel kinds m cols some ok (suc n) k r h =
-      let here : k < kinds * m = omega arith in
-      each-join P nought _ _ (row-each (sel (k / m)) (ok (k / m) (div-lt-iff-lt-mul {k = m} {x = k} {y = kinds} some .1 here)) cols r)
-      (rows-each sel kinds m cols some ok n (suc k) _ (omega arith))
+    -- n rows from row k on, of kinds · m
+    rows-each : (sel : ℕ → ℕ) (kinds m cols : ℕ) → 0 < m → ((c : ℕ) → c < kinds → Allowed (sel c)) → (n k : ℕ) (r : Reader) → k + n ≤ kinds * m → Each P (rowsOf s sel m cols n k r .values)
+    unfolding rowsOf
+    rows-each sel kinds m cols some ok zero k r h = none
+    rows-each sel kinds m cols some ok (suc n) k r h =
+        let here : k < kinds * m = omega arith in
+        each-join P nought _ _ (row-each (sel (k / m)) (ok (k / m) (div-lt-iff-lt-mul {k = m} {x = k} {y = kinds} some .1 here)) cols r)
+        (rows-each sel kinds m cols some ok n (suc k) _ (omega arith))
 
-  record-each : (m cols i : ℕ) → 0 < m → ((c : ℕ) → c < kind s → Allowed (selector s i c)) → Each P (recordOf s m cols i .values)
-  unfolding recordOf codedRecord
-  record-each m cols i some ok =
-      of-cond (λ (t : Stretch). Each P (t .values)) (eqb (recordLength s i) 0) _ _ (λ _. each-zeros P nought (kind s * m * cols))
-      (λ _. rows-each (selector s i) (kind s) m cols some ok (kind s * m) 0 (startOf (payloadAt s i) (recordLength s i)) (omega arith))
+    record-each : (m cols i : ℕ) → 0 < m → ((c : ℕ) → c < kind s → Allowed (selector s i c)) → Each P (recordOf s m cols i .values)
+    unfolding recordOf codedRecord
+    record-each m cols i some ok =
+        of-cond (λ (t : Stretch). Each P (t .values)) (eqb (recordLength s i) 0) _ _ (λ _. each-zeros P nought (kind s * m * cols))
+        (λ _. rows-each (selector s i) (kind s) m cols some ok (kind s * m) 0 (startOf (payloadAt s i) (recordLength s i)) (omega arith))
 
-  values-each : (m cols i : ℕ) → 0 < m → (i < blocks s → (c : ℕ) → c < kind s → Allowed (selector s i c)) → Each P (recordValues s m cols i)
-  unfolding recordValues
-  values-each m cols i some ok =
-      of-cond (Each P) (ltb i (blocks s)) _ _ (λ e. record-each m cols i some (ok (ltb-true i (blocks s) e)))
-      (λ _. each-zeros P nought (kind s * m * cols))
+    values-each : (m cols i : ℕ) → 0 < m → (i < blocks s → (c : ℕ) → c < kind s → Allowed (selector s i c)) → Each P (recordValues s m cols i)
+    unfolding recordValues
+    values-each m cols i some ok =
+        of-cond (Each P) (ltb i (blocks s)) _ _ (λ e. record-each m cols i some (ok (ltb-true i (blocks s) e)))
+        (λ _. each-zeros P nought (kind s * m * cols))
 
 -- ---- the two properties
 
