@@ -5,7 +5,7 @@ use mathlib.Core.List.{List}
 use mathlib.Core.Logic.{_⊎_, inl, inr, _↔_}
 use Prim.Native.Nat.{ℕ, zero, suc, _+_, _-_, _*_, _/_, _%_, _^_, _≤_, _<_}
 use native.Mathlib.Omega.{arith}
-use lib.Dec.{eqb}
+use lib.Dec.{T, eqb}
 use borrow.Author.Tests.{eqb-true, eqb-false, not-true, not-false}
 use lib.IntN.{ℤ, pos, natAbs}
 use mir.Syntax.{w16, w32}
@@ -38,6 +38,12 @@ abbrev pub counted : Group → ℤ → ℤ
 counted base z = cut w16 z
 counted (detail l) z = z
 counted final z = z
+
+-- the groups that go through the three levels
+abbrev pub levelled : Group → Bool
+levelled base = true
+levelled (detail l) = true
+levelled final = false
 
 -- ---- sizes
 abbrev pub Tall : Bool → ℕ → Type 0
@@ -92,13 +98,13 @@ module _ (g : Bool) (n w : ℕ) (t : Tall g n) (k : w % 16 ≡ 0) (i : Colour) w
   outcome-fits v = level-fits _ _ _ _ (shape g n l3 t) _ _
 
   -- ---- forward: the outcome is settled by the rows that go in
-  abbrev Like : Coefs → Coefs → Type 0
-  Like u v = (m : Group) (c r x : ℕ) → GoesIn g n m i c r → x < columns w m → counted m (u m i c r x) ≡ counted m (v m i c r x)
+  abbrev pub Like : Coefs → Coefs → Type 0
+  Like u v = (m : Group) (c r x : ℕ) → T (levelled m) → GoesIn g n m i c r → x < columns w m → counted m (u m i c r x) ≡ counted m (v m i c r x)
 
   module _ (u v : Coefs) (e : Like u v) where
     bands-like : (l : Level) (b : Band) → SameOn (bandRows (height g n l) (highs g l (height g n l)) b) (columns w (detail l)) (bands g l (height g n l) i (u (detail l) i) b) (bands g l (height g n l) i (v (detail l) i) b)
     bands-like l b y x p q =
-        same (mode l i) (source g l (height g n l) b y) (e (detail l) _ _ x (lifted l i b y p) q)
+        same (mode l i) (source g l (height g n l) b y) (e (detail l) _ _ x tt (lifted l i b y p) q)
       where
         same : (odd : Bool) (s : Source) → u (detail l) i (fromComponent s) (fromRow s) x ≡ v (detail l) i (fromComponent s) (fromRow s) x → value odd s (u (detail l) i) x ≡ value odd s (v (detail l) i) x
         same odd (S c r) z = z
@@ -109,7 +115,7 @@ module _ (g : Bool) (n w : ℕ) (t : Tall g n) (k : w % 16 ≡ 0) (i : Colour) w
 
     ll1-like : SameOn (height g n l1) (w / 16) (llAt u l1) (llAt v l1)
     unfolding ll1
-    ll1-like = sums-same g (u base i 0) (v base i 0) (height g n l1) (w / 16) (λ y x p q. e base 0 (y + start g) x (summed i y p) q)
+    ll1-like = sums-same g (u base i 0) (v base i 0) (height g n l1) (w / 16) (λ y x p q. e base 0 (y + start g) x tt (summed i y p) q)
 
     ll2-like : SameOn (height g n l2) (w / 8) (llAt u l2) (llAt v l2)
     unfolding ll2 after
@@ -227,7 +233,7 @@ module _ (w H : ℕ) (a : Coded w H) where
   planes-of-coefs u v e i = flat-same (planeRows (guarded H) (stripes H)) (planeColumns w i) _ _ (by i)
     where
       out : (i : Colour) → SameOn (planeRows (guarded H) (stripes H)) (w / 2) (outcome (guarded H) (stripes H) w i u) (outcome (guarded H) (stripes H) w i v)
-      out i = outcome-like (guarded H) (stripes H) w tall (a .whole) i u v (λ m c r x t q. e m i c r x t q)
+      out i = outcome-like (guarded H) (stripes H) w tall (a .whole) i u v (λ m c r x _ t q. e m i c r x t q)
 
       by : (i : Colour) → SameOn (planeRows (guarded H) (stripes H)) (planeColumns w i) (planeOf (guarded H) (stripes H) w u i) (planeOf (guarded H) (stripes H) w v i)
       by green y x p q =
