@@ -171,7 +171,7 @@ turned-small (pos (suc n)) f e = f
 turned-small (negsuc n) f e = f
 
 -- ---- a stream
-multiplier-some : (g : Group) → 0 < multiplier g
+pub multiplier-some : (g : Group) → 0 < multiplier g
 multiplier-some base = omega arith
 multiplier-some (detail l1) = omega arith
 multiplier-some (detail l2) = omega arith

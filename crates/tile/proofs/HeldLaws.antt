@@ -1,0 +1,92 @@
+-- The work slice that holds a packet's records holds its coefficients. Assumes nothing.
+use mathlib.Core.Path.{_≡_, refl, sym, ap, _∙_}
+use mathlib.Core.Bool.{Bool, true, false}
+use mathlib.Core.List.{List, _++_}
+use Prim.Native.Nat.{ℕ, zero, suc, _+_, _-_, _*_, _/_, _%_, _≤_, _<_}
+use native.Mathlib.Nat.{mul-le-mul-right, mul-assoc, add-mul, add-assoc, mod-lt, div-lt-iff-lt-mul}
+use native.Mathlib.Omega.{arith}
+use lib.Dec.{T}
+use lib.IntN.{ℤ, pos}
+use lib.ListN.{length, getD}
+use Rattle.lists.specs.Lists.{part}
+use Rattle.lists.proofs.Tab.{getD-part}
+use Rattle.format.specs.Sizes.{Colour, green, index, Level, l1, l2, l3, Group, base, detail, final, number, stripes, guarded, multiplier, columns, planeRowsOf}
+use Rattle.format.specs.Strip.{width, codedHeight}
+use Rattle.format.specs.Packets.{packetOf, kind}
+use Rattle.format.specs.Coefficients.{recordValues, packetValues, coefs}
+use Rattle.format.specs.Table.{GoesIn, summed, lifted, picked}
+use Rattle.format.specs.Lifting.{SameOn}
+use Rattle.format.specs.Synthesis.{outcome}
+use Rattle.format.proofs.Exact.{Coded, counted, levelled, Tall, tall-of, outcome-like}
+use Rattle.format.proofs.TableLaws.{source-in, chosen-in}
+use Rattle.format.proofs.Lengths.{packet-at}
+use Rattle.format.proofs.Ranges.{multiplier-some}
+use Rattle.tile.specs.Held.{place, components, packetAt, rowAt, held}
+use Rattle.tile.specs.Coefficients.{bandValues}
+
+-- row t of component c in record q
+place-split : (q k c m t w : ℕ) → ((q * k + c) * m + t) * w ≡ q * (k * m * w) + (c * m + t) * w
+place-split q k c m t w = simp (add-mul, mul-assoc, add-assoc)
+
+-- it lies in its record
+row-below : (k c m t w x : ℕ) → c < k → t < m → x < w → (c * m + t) * w + x < k * m * w
+row-below k c m t w x a b d =
+    let one : suc c * m ≤ k * m = mul-le-mul-right m a in
+    let two : suc (c * m + t) * w ≤ k * m * w = mul-le-mul-right w (omega arith) in
+    omega arith
+
+-- the number at column x of row r of component c, in work that holds the packet's n records from a on
+packet-held : (p : List ℕ) (work : List ℤ) (a m k w n : ℕ) → kind p ≡ k → part work a (n * (k * m * w)) ≡ packetValues p m w n → 0 < m
+    → (c r x : ℕ) → c < k → r < n * m → x < w
+    → getD work (place a m k w c r + x) (pos 0) ≡ getD (recordValues p m w (r / m)) ((c * m + r % m) * w + x) (pos 0)
+unfolding place
+packet-held p work a m k w n e h some c r x b d f =
+    let q = r / m in
+    let low = (c * m + r % m) * w + x in
+    let place : a + ((q * k + c) * m + r % m) * w + x ≡ a + (q * (k * m * w) + low) = omega (arith, place-split q k c m (r % m) w) in
+    let below : q < n = div-lt-iff-lt-mul {k = m} {x = r} {y = n} some .1 d in
+    let inside : low < k * m * w = row-below k c m (r % m) w x b (mod-lt r some) f in
+    let before : suc q * (k * m * w) ≤ n * (k * m * w) = mul-le-mul-right (k * m * w) below in
+    ap (λ (j : ℕ). getD work j (pos 0)) place
+    ∙ sym (getD-part work a (n * (k * m * w)) (q * (k * m * w) + low) (pos 0) (omega arith))
+    ∙ ap (λ (l : List ℤ). getD l (q * (k * m * w) + low) (pos 0)) h
+    ∙ (rw e at (packet-at p m w n q low below)) inside
+
+module _ (s : List ℕ) (g : Group) (i : Colour) (work : List ℤ) where
+  -- work holds the band of a group for an index
+  abbrev pub HoldsBand : Type 0
+  HoldsBand = part work (packetAt (width s) (stripes (codedHeight s)) g) ((stripes (codedHeight s) + 1) * (components g * multiplier g * columns (width s) g)) ≡ bandValues s g i
+
+  pub held-coefs : kind (packetOf s (number g) (index i)) ≡ components g → HoldsBand
+      → (c r x : ℕ) → c < components g → r < (stripes (codedHeight s) + 1) * multiplier g → x < columns (width s) g
+      → held (width s) (stripes (codedHeight s)) work g c r x ≡ coefs s g i c r x
+  unfolding held bandValues coefs
+  held-coefs e h =
+      packet-held (packetOf s (number g) (index i)) work (packetAt (width s) (stripes (codedHeight s)) g) (multiplier g) (components g) (columns (width s) g) (stripes (codedHeight s) + 1) e h (multiplier-some g)
+
+-- the rows that go in are rows of their packets
+pub goes-in-packet : (g : Bool) (n : ℕ) → Tall g n → (m : Group) (i : Colour) (c r : ℕ) → GoesIn g n m i c r → (c < components m) × (r < (n + 1) * multiplier m)
+goes-in-packet false n t m i c r (summed j y h) = omega arith
+goes-in-packet true n t m i c r (summed j y h) = omega arith
+goes-in-packet g n t m i c r (lifted l1 j b y h) = let q = source-in g n t l1 b y h in (q .1, q .0)
+goes-in-packet g n t m i c r (lifted l2 j b y h) = let q = source-in g n t l2 b y h in (q .1, q .0)
+goes-in-packet g n t m i c r (lifted l3 j b y h) = let q = source-in g n t l3 b y h in (q .1, q .0)
+goes-in-packet g n t m i c r (picked y h) = (omega arith, chosen-in g n t y h)
+
+-- ---- the planes of the coefficients that work holds are the stream's
+module _ (s : List ℕ) (i : Colour) (size : Coded (width s) (codedHeight s)) (work : List ℤ) where
+  -- work holds groups 0 to 3 of an index
+  pub record HoldsPlane : Type 0 where
+    pub kinds : (m : Group) → T (levelled m) → kind (packetOf s (number m) (index i)) ≡ components m
+    pub bands : (m : Group) → T (levelled m) → HoldsBand s m i work
+
+  -- so what comes out of the three levels is the stream's
+  pub outcome-held : HoldsPlane
+      → SameOn (planeRowsOf (codedHeight s)) (width s / 2)
+      (outcome (guarded (codedHeight s)) (stripes (codedHeight s)) (width s) i (λ m j. held (width s) (stripes (codedHeight s)) work m))
+      (outcome (guarded (codedHeight s)) (stripes (codedHeight s)) (width s) i (coefs s))
+  outcome-held h =
+      outcome-like (guarded (codedHeight s)) (stripes (codedHeight s)) (width s) (tall-of (codedHeight s) (size .tall)) (size .whole) i _ (coefs s)
+      (λ m c r x l t q.
+      let b = goes-in-packet (guarded (codedHeight s)) (stripes (codedHeight s)) (tall-of (codedHeight s) (size .tall)) m i c r t in
+      ap (counted m) (held-coefs s m i work (h .kinds m l) (h .bands m l) c r x (b .0) (b .1) q))
