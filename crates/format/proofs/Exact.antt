@@ -1,22 +1,20 @@
 -- Recovery is exact: fed w, H and the three planes, it gives every coefficient of the rows that go in. Assumes nothing.
 use mathlib.Core.Path.{_≡_, refl, sym, ap, _∙_}
-use mathlib.Core.Bool.{Bool, true, false, not}
-use mathlib.Core.List.{List}
-use mathlib.Core.Logic.{_⊎_, inl, inr, _↔_}
-use Prim.Native.Nat.{ℕ, zero, suc, _+_, _-_, _*_, _/_, _%_, _^_, _≤_, _<_}
+use mathlib.Core.Bool.{Bool, true, false}
+use mathlib.Core.Logic.{inl, inr, _↔_}
+use Prim.Native.Nat.{ℕ, _+_, _-_, _/_, _%_, _^_, _≤_, _<_}
 use native.Mathlib.Omega.{arith}
-use lib.Dec.{T, eqb}
-use borrow.Author.Tests.{eqb-true, eqb-false, not-true, not-false}
+use lib.Dec.{T}
+use borrow.Author.Tests.{eqb-false, not-true}
 use lib.IntN.{ℤ, pos, natAbs}
-use mir.Syntax.{w16, w32}
-use mir.Val.{SFits}
+use mir.Syntax.{w16}
 use Rattle.wrap32.specs.Cut.{cut}
-use Rattle.format.specs.Lifting.{Plane, Lead, Shape, SameOn}
+use Rattle.format.specs.Lifting.{Plane, Shape, SameOn}
 use Rattle.format.specs.Sizes.{Colour, green, red, blue, Level, l1, l2, l3, Group, base, detail, final, stripes, guarded, columns, planeRows, planeColumns}
 use Rattle.format.specs.Coefficients.{Coefs}
 use Rattle.format.specs.Table.{start, height, lead, highs, Source, S, E, Band, hl, lh, hh, source, bandRows, mode, chosen, fromComponent, fromRow, GoesIn, summed, lifted, picked}
-use Rattle.format.specs.Synthesis.{sums, level, value, bands, step, ll1, ll2, ll3, outcome, bothGreens, flat, planeOf, planes}
-use Rattle.format.specs.Recovery.{readPlane, dOf, lOf, back, seek, differences, unstep, given, unband, summedBack, liftedBack, outOf, pickedBack, recover}
+use Rattle.format.specs.Synthesis.{level, value, bands, step, ll1, ll2, ll3, outcome, planeOf, planes}
+use Rattle.format.specs.Recovery.{readPlane, back, differences, unstep, given, unband, summedBack, liftedBack, outOf, pickedBack, recover}
 use Rattle.format.proofs.LevelLaws.{Fits, level-fits, level-same, ll-back, band-back}
 use Rattle.format.proofs.GreenLaws.{greens-same, d-back, l-back}
 use Rattle.format.proofs.PlaceLaws.{value-fits, value-back, seek-rest, seek-found, sums-fits, sums-back, sums-same, read-flat, flat-same}

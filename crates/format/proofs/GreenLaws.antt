@@ -1,16 +1,11 @@
 -- The final green is undone, and depends on no place beyond its planes. Assumes nothing.
-use mathlib.Core.Path.{_≡_, refl, sym, ap, _∙_}
-use Prim.Native.Nat.{ℕ, zero, suc, _+_, _-_, _*_, _≤_, _<_, min}
+use mathlib.Core.Path.{_∙_}
+use Prim.Native.Nat.{ℕ, _+_, _-_, _*_, _<_, min}
 use native.Mathlib.Omega.{arith}
 use lib.Dec.{eqb}
-use borrow.Author.Tests.{eqb-true, eqb-false}
-use lib.Signed.{shrZ}
-use mir.Syntax.{w32}
-use mir.Val.{SFits}
-use Rattle.wrap32.specs.Cut.{cut, addW}
-use Rattle.wrap32.proofs.Laws.{addW-fits, cut-fits, sub-add, shr-fits}
+use Rattle.wrap32.proofs.Laws.{addW-fits, sub-add, shr-fits}
 use Rattle.wrap32.proofs.Bias.{green-back}
-use Rattle.format.specs.Lifting.{Signal, Plane, weave, evens, odds, SameOn}
+use Rattle.format.specs.Lifting.{Plane, SameOn}
 use Rattle.format.proofs.LiftingLaws.{weave-even, weave-odd, weave-same, branch}
 use Rattle.format.proofs.LevelLaws.{Fits}
 use Rattle.format.specs.Synthesis.{guess, around, oddGreen, evenGreen, bothGreens}

@@ -1,13 +1,12 @@
 -- How many numbers a row, a record and a packet have; and where a coefficient stands among a packet's. Assumes nothing.
-use mathlib.Core.Path.{_≡_, refl, sym, ap, _∙_}
-use mathlib.Core.Bool.{Bool, true, false, cond}
-use mathlib.Core.List.{List, [], _∷_, _++_}
-use Prim.Native.Nat.{ℕ, zero, suc, _+_, _-_, _*_, _/_, _%_, _^_, _≤_, _<_, min}
+use mathlib.Core.Path.{_≡_, sym, ap, _∙_}
+use mathlib.Core.List.{List}
+use Prim.Native.Nat.{ℕ, zero, suc, _+_, _-_, _*_, _/_, _^_, _≤_, _<_}
 use native.Mathlib.Omega.{arith}
 use lib.Dec.{eqb, leb, ltb}
 use borrow.Author.Tests.{eqb-true, eqb-false}
 use lib.IntN.{ℤ, pos}
-use lib.ListN.{length, getD, take, replicate, length-append, length-take, length-replicate}
+use lib.ListN.{length, getD, length-append, length-take, length-replicate}
 use lib.Pow.{pow-pos}
 use Rattle.lists.specs.Lists.{rows}
 use Rattle.lists.proofs.Tab.{getD-part}

@@ -1,18 +1,16 @@
 -- Lifting is undone, and depends on no place beyond its bands. Assumes nothing.
-use mathlib.Core.Path.{_≡_, refl, sym, ap, _∙_}
+use mathlib.Core.Path.{_≡_, refl, _∙_}
 use mathlib.Core.Bool.{Bool, true, false, cond}
-use mathlib.Core.Logic.{_⊎_, inl, inr, ⊎-elim}
-use Prim.Native.Nat.{ℕ, zero, suc, _+_, _-_, _*_, _/_, _%_, _≤_, _<_, min}
+use mathlib.Core.Logic.{_⊎_, ⊎-elim}
+use Prim.Native.Nat.{ℕ, _+_, _-_, _*_, _/_, _%_, _≤_, _<_, min}
 use native.Mathlib.Omega.{arith}
 use lib.Dec.{eqb}
 use borrow.Author.Tests.{eqb-true, eqb-false}
-use lib.IntN.{ℤ, pos}
-use lib.Signed.{shrZ}
+use lib.IntN.{ℤ}
 use mir.Syntax.{w32}
 use mir.Val.{SFits}
-use Rattle.wrap32.specs.Cut.{addW, subW}
 use Rattle.wrap32.proofs.Laws.{addW-fits, subW-fits, sub-add, add-sub}
-use Rattle.format.specs.Lifting.{Signal, Plane, weave, evens, odds, Lead, lowLeads, highLeads, join, lowPlaces, highPlaces, taken, added, lowOut, highOut, lift, highsOf, lowsOf, Shape, Same}
+use Rattle.format.specs.Lifting.{Signal, weave, Lead, lowLeads, highLeads, join, lowPlaces, highPlaces, taken, added, lowOut, highOut, lift, highsOf, lowsOf, Shape, Same}
 
 pub weave-even : (a b : Signal) (y : ℕ) → weave a b (2 * y) ≡ a y
 unfolding weave

@@ -1,9 +1,9 @@
 -- Rows go back to their places; sums, and planes in a list. Assumes nothing.
 use mathlib.Core.Path.{_≡_, refl, sym, ap, _∙_}
 use mathlib.Core.Bool.{Bool, true, false, cond, _&&_, Bool·beq}
-use mathlib.Core.List.{List, _++_}
+use mathlib.Core.List.{List}
 use mathlib.Core.Logic.{_⊎_, inl, inr}
-use Prim.Native.Nat.{ℕ, zero, suc, _+_, _*_, _≤_, _<_, _^_}
+use Prim.Native.Nat.{ℕ, zero, suc, _+_, _*_, _<_, _^_}
 use native.Mathlib.Nat.{eq-or-lt-of-le, le-of-suc-le-suc}
 use native.Mathlib.Omega.{arith}
 use lib.Dec.{eqb}
@@ -12,7 +12,7 @@ use lib.IntN.{ℤ, pos, natAbs}
 use lib.ListN.{getD}
 use mir.Syntax.{w16, w32}
 use mir.Val.{SFits}
-use Rattle.wrap32.specs.Cut.{cut, addW, subW, signOf, isOdd, edgeDetail, edgeBack}
+use Rattle.wrap32.specs.Cut.{cut, addW, subW, signOf, isOdd, edgeDetail}
 use Rattle.wrap32.proofs.Laws.{addW-fits, cut-fits, sum-back}
 use Rattle.wrap32.proofs.Edge.{edge-back}
 use Rattle.lists.specs.Lists.{tab}

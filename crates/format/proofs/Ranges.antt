@@ -1,27 +1,24 @@
 -- The coefficients of a stream as read: 32-bit numbers, and below 2 ^ 30 in magnitude where the selectors are 11 at most. Assumes nothing.
-use mathlib.Core.Path.{_≡_, refl, sym, ap, _∙_}
+use mathlib.Core.Path.{_≡_, refl, sym}
 use mathlib.Core.Bool.{Bool, true, false, cond, _||_, true≢false}
 use mathlib.Core.List.{List, [], _∷_, _++_}
-use mathlib.Core.Logic.{_↔_}
 use Prim.Native.Nat.{ℕ, zero, suc, _+_, _-_, _*_, _/_, _%_, _^_, _≤_, _<_}
-use native.Mathlib.Nat.{div-lt-iff-lt-mul, lt-of-lt-of-le, lt-of-le-of-lt, mul-le-mul, sub-le}
+use native.Mathlib.Nat.{div-lt-iff-lt-mul, lt-of-lt-of-le, mul-le-mul}
 use native.Mathlib.Omega.{arith}
 use lib.Dec.{eqb, leb, ltb, lit≤}
 use borrow.Author.Tests.{leb-true, leb-false, ltb-true}
 use lib.IntN.{ℤ, pos, negsuc, negℤ, natAbs}
 use lib.Signed.{ltZ}
-use lib.ListN.{getD, take, replicate}
+use lib.ListN.{getD, take}
 use lib.Pow.{pow-mono, shl-lt}
 use mir.Syntax.{w32}
 use mir.Val.{SFits}
-use Rattle.wrap32.specs.Cut.{cut, wrap}
 use Rattle.wrap32.proofs.Laws.{cut-fits, cut-id}
 use Rattle.format.specs.Sizes.{Colour, Level, l1, l2, l3, Group, base, detail, final, number, index, multiplier, columns}
-use Rattle.format.specs.Bits.{bitsAt}
 use Rattle.format.specs.Strip.{width}
 use Rattle.format.specs.Packets.{packetOf, kind, blocks, recordLength, selector, payloadAt}
 use Rattle.format.specs.Reader.{Reader, Taken, startOf, readOf}
-use Rattle.format.specs.Coefficients.{valueOf, Signed, signOf, Four, fourOf, signsOf, groupOf, zerosOf, Part, zeros, rowStep, rowFrom, rowOf, rowsOf, Stretch, codedRecord, recordOf, recordValues, Coefs, coefs}
+use Rattle.format.specs.Coefficients.{valueOf, Signed, signOf, fourOf, signsOf, groupOf, zerosOf, Part, zeros, rowStep, rowFrom, rowOf, rowsOf, Stretch, codedRecord, recordOf, recordValues, coefs}
 use Rattle.format.proofs.BitLaws.{bits-lt}
 use Rattle.format.proofs.Exact.{Ranged}
 

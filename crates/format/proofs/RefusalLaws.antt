@@ -1,14 +1,14 @@
 -- Laws of checks in turn, and what an accepted stream has. Assumes nothing.
-use mathlib.Core.Path.{_≡_, refl, sym, ap, _∙_}
+use mathlib.Core.Path.{_≡_, refl}
 use mathlib.Core.Bool.{Bool, true, false, not, _&&_}
 use mathlib.Core.List.{List}
 use mathlib.Core.Logic.{⊎-elim}
-use Prim.Native.Nat.{ℕ, zero, suc, _+_, _*_, _%_, _≤_, _<_}
+use Prim.Native.Nat.{ℕ, zero, suc, _%_, _≤_, _<_}
 use native.Mathlib.Omega.{arith}
 use lib.Dec.{eqb, leb, ltb}
 use lib.ListN.{length}
 use borrow.Author.Tests.{eqb-true, ltb-false, not-false}
-use Rattle.format.specs.Sizes.{green, red, blue, l1, l2, l3, base, detail, final}
+use Rattle.format.specs.Sizes.{green, l1, base, detail}
 use Rattle.format.specs.Strip.{magic, width, halfHeight, sides, marks, validHeader, codedHeight}
 use Rattle.format.specs.Refusals.{_▷_, on, each, lentRefusal, directoryRefusal, entryCheck, planeRefusal, packetsRefusal, refusal}
 use Rattle.format.proofs.BitLaws.{le-or-lt}

@@ -1,12 +1,11 @@
 -- Each lifting pass is T.800's filter where no sum leaves 32 bits. Assumes nothing.
-use mathlib.Core.Path.{_≡_, refl, sym, ap, _∙_, subst}
-use mathlib.Core.Bool.{Bool, true, false, cond}
+use mathlib.Core.Path.{_≡_, refl, sym, ap, _∙_}
 use mathlib.Core.Logic.{_⊎_, inl, inr, ⊎-elim}
-use Prim.Native.Nat.{ℕ, zero, suc, _+_, _-_, _*_, _/_, _%_, _≤_, _<_, min}
+use Prim.Native.Nat.{ℕ, zero, suc, _+_, _-_, _*_, _%_, _≤_, _<_, min}
 use native.Mathlib.Nat.{mod-eq-of-lt, eq-or-lt-of-le}
 use native.Mathlib.Omega.{arith}
-use lib.Dec.{eqb, eqb·suc-zero}
-use borrow.Author.Tests.{eqb-true, eqb-false, eq-eqb, ne-eqb}
+use lib.Dec.{eqb·suc-zero}
+use borrow.Author.Tests.{eq-eqb, ne-eqb}
 use lib.IntN.{ℤ, pos, negsuc, _+ℤ_, _-ℤ_, +ℤ-comm}
 use lib.Signed.{shrZ}
 use mir.Syntax.{w32}
@@ -15,7 +14,7 @@ use Rattle.wrap32.specs.Cut.{addW, subW}
 use Rattle.wrap32.proofs.Laws.{addW-plain, subW-plain}
 use Rattle.format.specs.Lifting.{Signal, weave, Lead, lowLeads, highLeads, join, taken, added, lowOut, highOut, lift, Shape, Same}
 use Rattle.format.proofs.LiftingLaws.{weave-even, weave-odd}
-use Rattle.format.specs.T800.{prior, next, modulo, fold, ext, evenX, oddX, filter, NoneLeaves, Starts}
+use Rattle.format.specs.T800.{prior, next, fold, ext, evenX, oddX, filter, NoneLeaves, Starts}
 
 -- ---- the extension, where the filter reads it
 module _ (L : ℕ) (b : 2 ≤ L) where

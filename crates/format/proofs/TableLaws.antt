@@ -1,20 +1,15 @@
 -- The rows that go in lie in their packets: what an index needs. Assumes nothing.
 use mathlib.Core.Path.{_≡_, refl}
 use mathlib.Core.Bool.{Bool, true, false, cond}
-use Prim.Native.Nat.{ℕ, zero, suc, _+_, _-_, _*_, _≤_, _<_}
+use Prim.Native.Nat.{ℕ, _+_, _-_, _*_, _≤_, _<_}
 use native.Mathlib.Omega.{arith}
 use lib.Dec.{eqb, ltb}
-use borrow.Author.Tests.{eqb-true, eqb-false, ltb-true, ltb-false}
-use Rattle.format.specs.Sizes.{Level, l1, l2, l3, planeRows}
+use borrow.Author.Tests.{ltb-true, ltb-false}
+use Rattle.format.specs.Sizes.{Level, l1, l2, l3, detail, multiplier, planeRows}
 use Rattle.format.specs.Table.{height, highs, Source, S, E, Band, hl, lh, hh, first, middle, last, plain, source, bandRows, chosen, fromComponent, fromRow}
 use Rattle.format.proofs.Exact.{Tall}
 
--- the row multiplier of groups 1 to 3: a packet has (n + 1) m rows of each of its three components
-abbrev pub times : Level → ℕ
-times l1 = 1
-times l2 = 2
-times l3 = 4
-
+-- a packet of groups 1 to 3 has (n + 1) m rows of each of its three components
 abbrev pub In : ℕ → Source → Type 0
 In r s = (fromRow s < r) × (fromComponent s < 3)
 
@@ -43,7 +38,7 @@ module _ (e h y r : ℕ) (p : y < h) (q : h + 2 * e ≤ r) where
       pick (ltb y e) (first e b y) _ (λ t. stride-first b (ltb-true y e t)) λ t.
       pick (ltb y (h - e)) (middle e b y) (last e h b (y - (h - e))) (λ u. stride-middle b (ltb-true y (h - e) u)) (λ u. stride-last b (ltb-false y (h - e) u))
 
-pub source-in : (g : Bool) (n : ℕ) → Tall g n → (l : Level) (b : Band) (y : ℕ) → y < bandRows (height g n l) (highs g l (height g n l)) b → In ((n + 1) * times l) (source g l (height g n l) b y)
+pub source-in : (g : Bool) (n : ℕ) → Tall g n → (l : Level) (b : Band) (y : ℕ) → y < bandRows (height g n l) (highs g l (height g n l)) b → In ((n + 1) * multiplier (detail l)) (source g l (height g n l) b y)
 unfolding source
 source-in false n t l1 hl y h = omega arith
 source-in false n t l1 lh y h = pick (eqb (y + 1) n) (S 0 n) (S 1 (y + 1)) (λ e. omega arith) (λ e. omega arith)

@@ -1,14 +1,10 @@
 -- What the definitions promise: nothing is lost (demand 3), and each lifting pass is T.800's filter. Assumes nothing.
-use mathlib.Core.Path.{_≡_, refl, sym, ap, _∙_, subst}
-use mathlib.Core.Bool.{true, cond}
-use mathlib.Core.List.{List, _++_}
-use mathlib.Core.Logic.{_⊎_, inl, inr, _↔_}
-use Prim.Native.Nat.{ℕ, _+_, _*_, _<_, _%_}
-use native.Mathlib.Omega.{arith}
-use lib.Dec.{eqb}
-use borrow.Author.Tests.{eq-eqb}
+use mathlib.Core.Path.{_≡_, refl, _∙_}
+use mathlib.Core.List.{List}
+use mathlib.Core.Logic.{_⊎_, _↔_}
+use Prim.Native.Nat.{ℕ, _+_, _*_, _<_}
 use lib.IntN.{ℤ}
-use lib.ListN.{length, take, drop}
+use lib.ListN.{length, take}
 use lib.Seq.{take-at}
 use Rattle.lists.specs.Lists.{tab, rows}
 use Rattle.lists.proofs.Tab.{length-tab}
@@ -17,13 +13,13 @@ use Rattle.format.specs.Sizes.{Colour, Group, stripes, guarded, columns,
 use Rattle.format.specs.Strip.{width, codedHeight}
 use Rattle.format.specs.Refusals.{refusal}
 use Rattle.format.specs.Coefficients.{Coefs, coefs}
-use Rattle.format.specs.Lifting.{Plane, Lead, lowLeads, highLeads, join, Same}
+use Rattle.format.specs.Lifting.{Plane, lowLeads, highLeads, join, Same}
 use Rattle.format.specs.Table.{GoesIn}
 use Rattle.format.specs.Synthesis.{down, across, planeOf, planes}
 use Rattle.format.specs.Recovery.{recover}
-use Rattle.format.specs.Tile.{after, planeAfter}
+use Rattle.format.specs.Tile.{planeAfter}
 use Rattle.format.specs.T800.{filter, NoneLeaves}
-use Rattle.format.proofs.Exact.{Coded, counted, exact, one-to-one, SameCoefs, SamePlanes}
+use Rattle.format.proofs.Exact.{counted, exact, one-to-one}
 use Rattle.format.proofs.RefusalLaws.{coded}
 use Rattle.format.proofs.Ranges.{LowSelectors, ranged}
 use Rattle.format.proofs.T800Laws.{pass-is-filter}

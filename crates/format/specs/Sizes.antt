@@ -1,5 +1,5 @@
 -- The parts of a tile and their sizes, from the coded size w, H: document 01, end of 'Directory and packets', and 'Planes'.
-use mathlib.Core.Bool.{Bool, true, false, not, cond}
+use mathlib.Core.Bool.{Bool, true, false, not}
 use Prim.Native.Nat.{ℕ, _+_, _-_, _*_, _/_, _%_}
 use lib.Dec.{eqb}
 

@@ -1,9 +1,6 @@
 -- `words::field` meets its contract: the first n bits of the word at the place. Assumes nothing.
 use borrow.Author.Needs.{needs}
-use mathlib.Core.Path.{_≡_, sym, subst, _∙_}
-use Prim.Native.Nat.{ℕ, _<_, _^_}
-use native.Mathlib.Omega.{arith}
-use Rattle.format.specs.Bits.{bitsAt}
+use mathlib.Core.Path.{_∙_}
 use Rattle.format.proofs.BitLaws.{prefix, bits-lt}
 use Rattle.words.proofs.field.Statement.{statement}
 use Rattle.words.proofs.field.Tie as tie

@@ -1,7 +1,7 @@
 -- `words::whole` meets its contract. Assumes nothing.
 use borrow.Author.Needs.{needs}
 use mathlib.Core.Path.{ap, _∙_}
-use Prim.Native.Nat.{_-_, ℕ, _+_, _*_, _/_, _%_, _^_}
+use Prim.Native.Nat.{_-_, ℕ, _*_, _/_, _%_, _^_}
 use native.Mathlib.Omega.{arith}
 use Rattle.format.specs.Bits.{bitsAt}
 use Rattle.words.proofs.WordLaws.{window-bits}
