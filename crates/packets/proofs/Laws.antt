@@ -79,12 +79,15 @@ abbrev flag : Bool → ℕ
 flag true = 1
 flag false = 0
 
+pub apart : true ≡ false → ⊥
+apart h = let e : flag true ≡ flag false = ap flag h in omega (arith, e)
+
 pub and-true : (a b : Bool) → (a && b) ≡ true → (a ≡ true) × (b ≡ true)
 and-true true b h = (refl, h)
-and-true false b h = absurd (let e : 0 ≡ 1 = ap flag h in omega (arith, e))
+and-true false b h = absurd (apart (sym h))
 
 pub or-false : (a b : Bool) → (a || b) ≡ false → (a ≡ false) × (b ≡ false)
-or-false true b h = absurd (let e : 1 ≡ 0 = ap flag h in omega (arith, e))
+or-false true b h = absurd (apart h)
 or-false false b h = (refl, h)
 
 pub each-zero : (f : ℕ → ℕ) (i n : ℕ) → each f n ≡ 0 → i < n → f i ≡ 0
