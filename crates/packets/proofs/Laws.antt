@@ -12,10 +12,10 @@ use borrow.Author.Tests.{lt-ltb, le-ltb, lt-leb, ltb-true, ltb-false, leb-true, 
 use Rattle.format.proofs.BitLaws.{le-or-lt, bits-lt}
 use Rattle.format.specs.Bits.{bitsAt}
 use Rattle.format.specs.Sizes.{number, index}
-use Rattle.format.specs.Strip.{magic, sides, marks, validHeader, groupSize, codedHeight}
+use Rattle.format.specs.Strip.{magic, sides, marks, validHeader, width, groupSize, codedHeight}
 use Rattle.format.specs.Packets.{sum, entryCount, hasEntry, packetOf, control, marker, zero8, sizeOf, kind, blocks, entryLength, blockSize, blockAt, groupStart, packetStart, packetLength, recordBit, recordLength, payloadAt}
 use Rattle.format.specs.Refusals.{_▷_, on, each, isDetail, entryRefusal, groupRefusal, directoryRefusal, tileRefusal, entryCheck, recordRefusal, packetRefusal, refusal}
-use Rattle.packets.specs.Answers.{groupOf, colourOf, entered, entryOf, missing, answer, marksRefusal, countsRefusal, sizeRefusal}
+use Rattle.packets.specs.Answers.{groupOf, colourOf, entered, entryOf, missing, checkedOf, marksRefusal, countsRefusal, sizeRefusal}
 use Rattle.packets.specs.declared.directory.DirEntry.{DirEntry}
 use Rattle.packets.specs.declared.directory.DirEntry.the-variants.{At, Missing}
 
@@ -264,10 +264,19 @@ module _ (s : List ℕ) (g k : ℕ) where
       let is = entry-at start n e in
       omega (arith, is .1, is .2, inside good h (is .0))
 
--- an answer with a refusal
-pub answer-refused : (r w H : ℕ) → (r ≡ 0 → ⊥) → answer r w H ≡ record { refusal = r; width = 0; height = 0 }
-answer-refused zero w H h = absurd (h refl)
-answer-refused (suc r) w H h = refl
+-- ---- the answer of the check
+
+checked-fields : (s : List ℕ) (k : ℕ) (b : Bool) → eqb k 0 ≡ b → checkedOf s k .refusal ≡ k
+unfolding checkedOf
+checked-fields s k true e = simp (e) (sym (eqb-true k 0 e))
+checked-fields s k false e = simp (e)
+
+pub checked-refusal : (s : List ℕ) (k : ℕ) → checkedOf s k .refusal ≡ k
+checked-refusal s k = checked-fields s k (eqb k 0) refl
+
+pub checked-size : (s : List ℕ) (k : ℕ) → k ≡ 0 → (checkedOf s k .width ≡ width s) × (checkedOf s k .height ≡ codedHeight s)
+unfolding checkedOf
+checked-size s k e = rw e (refl, refl)
 
 -- ---- lengths that the checks give
 

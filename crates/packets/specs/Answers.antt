@@ -1,13 +1,14 @@
 -- What the code's answers are by document 01: the number for each case, and the checks of a packet's header in three parts.
 use mathlib.Core.List.{List}
-use mathlib.Core.Bool.{Bool, true, false, not, _&&_, _||_}
+use mathlib.Core.Bool.{Bool, true, false, not, cond, _||_}
 use Prim.Native.Nat.{ℕ, zero, suc}
 use lib.ListN.{length}
 use lib.Dec.{ltb, eqb}
-use Rattle.format.specs.Sizes.{Colour, green, red, blue, Level, l1, l2, l3, Group, base, detail, final}
+use Rattle.format.specs.Sizes.{Colour, green, red, blue, l1, l2, l3, Group, base, detail, final}
 use Rattle.format.specs.Strip.{width, codedHeight}
 use Rattle.format.specs.Packets.{packetStart, packetLength, hasEntry, tag, zero4, kind, zero6, blocks, marker, zero8, padding, sizeOf}
-use Rattle.format.specs.Refusals.{_▷_, on, refusal}
+use Rattle.format.specs.Refusals.{_▷_, on}
+use Rattle.format.specs.Tile.{accepted}
 use Rattle.packets.specs.declared.Checked.{Checked}
 use Rattle.packets.specs.declared.directory.DirEntry.{DirEntry}
 use Rattle.packets.specs.declared.directory.DirEntry.the-variants.{At, Missing}
@@ -47,10 +48,7 @@ countsRefusal p = on (not (eqb (kind p) 1 || eqb (kind p) 3)) 14 ▷ on (eqb (bl
 unfoldable pub sizeRefusal : List ℕ → ℕ
 sizeRefusal p = on (not (eqb (marker p) 16) || not (eqb (zero8 p) 0)) 16 ▷ on (not (eqb (sizeOf p) (length p))) 17
 
--- a refusal with every other field 0; the coded size where there is none
-abbrev pub answer : ℕ → ℕ → ℕ → Checked
-answer zero w H = record { refusal = 0; width = w; height = H }
-answer (suc k) w H = record { refusal = suc k; width = 0; height = 0 }
-
-unfoldable pub checkedOf : List ℕ → ℕ → ℕ → ℕ → ℕ → Checked
-checkedOf s greenN redN blueN workN = answer (refusal s greenN redN blueN workN) (width s) (codedHeight s)
+-- the answer: a refusal with every other field 0; the coded size where there is none
+unfoldable pub checkedOf : List ℕ → ℕ → Checked
+checkedOf s refusal =
+    cond (accepted refusal) (record { refusal = 0; width = width s; height = codedHeight s }) (record { refusal = refusal; width = 0; height = 0 })

@@ -247,7 +247,7 @@ fn first_refusal(stream: &[u8], green: usize, red: usize, blue: usize, work: usi
 
 // All checks of a stream, with the lengths of the lent slices.
 pub fn check(stream: &[u8], green: usize, red: usize, blue: usize, work: usize) -> Checked
-    ensures { λ r. ⌜ r ≡ checkedOf (now (stream .entry)) green red blue work ⌝ }
+    ensures { λ r. ⌜ r ≡ checkedOf (now (stream .entry)) (refusal (now (stream .entry)) green red blue work) ⌝ }
 {
     let refusal = first_refusal(stream, green, red, blue, work);
     if refusal != 0 {

@@ -2,14 +2,15 @@
 use mathlib.Core.Path.{sym, _∙_}
 use native.Mathlib.Omega.{arith}
 use borrow.Author.Needs.{needs}
+use borrow.Author.Tests.{ne-eqb}
 use Rattle.packets.specs.Answers.{checkedOf}
-use Rattle.packets.proofs.Laws.{answer-refused, refusal-long}
+use Rattle.packets.proofs.Laws.{refusal-long}
 use Rattle.packets.proofs.check.Statement.{statement}
 use Rattle.packets.proofs.check.Tie as tie
 
 returns : tie.Need-returns
 unfolding checkedOf
-returns c = rw (← (c .before .first-refusal .ensures)) (sym (answer-refused (c .before .first-refusal .result) _ _ (c .if1 .taken)))
+returns c = simp (← (c .before .first-refusal .ensures), ne-eqb _ _ (c .if1 .taken))
 
 returns-2 : tie.Need-returns-2
 unfolding checkedOf
