@@ -1,0 +1,186 @@
+// The directory of a stream: document 01, 'Directory and packets'.
+ghost use mathlib.Core.Path.{_≡_};
+ghost use Prim.Native.Nat.{_+_, _*_, _^_, _<_, _≤_};
+ghost use lib.ListN.{length};
+ghost use Rattle.format.specs.Strip.{groupSize};
+ghost use Rattle.format.specs.Packets.{sum, entryCount, blockSize, lengthPlace, entryLength, blockAt, groupStart, packetStart, packetLength};
+ghost use Rattle.format.specs.Refusals.{each, entryRefusal, groupRefusal, directoryRefusal};
+ghost use Rattle.packets.specs.Answers.{entryOf};
+use words::field;
+
+// Where an entry's packet starts in the stream, and its length.
+pub enum DirEntry {
+    At(usize, usize),
+    Missing,
+}
+
+// The size of a group in bytes.
+fn group_size(stream: &[u8], g: usize) -> usize
+    requires { ⌜ (128 ≤ length (now stream)) × (g < 5) ⌝ }
+    ensures { λ r. ⌜ (r ≡ groupSize (now (stream .entry)) g) × (r < 2 ^ 28) ⌝ }
+{
+    field(stream, 8 * (16 + 3 * g), 24) * 16
+}
+
+// The entry count of the block at a byte.
+fn entry_count(stream: &[u8], at: usize) -> usize
+    requires { ⌜ (128 ≤ length (now stream)) × (at < 2 ^ 32) ⌝ }
+    ensures { λ r. ⌜ (r ≡ entryCount (now (stream .entry)) at) × (r < 16) ⌝ }
+{
+    field(stream, 8 * at, 8) % 16
+}
+
+fn block_size(stream: &[u8], at: usize) -> usize
+    requires { ⌜ (128 ≤ length (now stream)) × (at < 2 ^ 32) ⌝ }
+    ensures { λ r. ⌜ (r ≡ blockSize (now (stream .entry)) at) × (r ≤ 32) ⌝ }
+{
+    let n = entry_count(stream, at);
+    if 5 <= n { 32 } else { 16 }
+}
+
+// Where a block has the length of entry k.
+fn length_place(k: usize) -> usize
+    requires { ⌜ k < 16 ⌝ }
+    ensures { λ r. ⌜ (r ≡ lengthPlace k) × (r < 64) ⌝ }
+{
+    if k < 5 { 1 + 3 * k } else { 17 + 3 * (k - 5) }
+}
+
+// The length in bytes of entry k of the block at a byte.
+fn entry_length(stream: &[u8], at: usize, k: usize) -> usize
+    requires { ⌜ (128 ≤ length (now stream)) × (at < 2 ^ 32) × (k < 16) ⌝ }
+    ensures { λ r. ⌜ (r ≡ entryLength (now (stream .entry)) at k) × (r < 2 ^ 28) ⌝ }
+{
+    field(stream, 8 * (at + length_place(k)), 24) * 16
+}
+
+// The block of a group.
+fn block_at(stream: &[u8], g: usize) -> usize
+    requires { ⌜ (128 ≤ length (now stream)) × (g < 5) ⌝ }
+    ensures { λ r. ⌜ (r ≡ blockAt (now (stream .entry)) g) × (r < 2 ^ 31) ⌝ }
+{
+    let mut at = 48;
+    let mut i = 0;
+    while i < g {
+        at += block_size(stream, at);
+        i += 1;
+    }
+    at
+}
+
+// Where the packets of a group start.
+fn group_start(stream: &[u8], g: usize) -> usize
+    requires { ⌜ (128 ≤ length (now stream)) × (g < 5) ⌝ }
+    ensures { λ r. ⌜ (r ≡ groupStart (now (stream .entry)) g) × (r < 2 ^ 40) ⌝ }
+{
+    let mut start = 128;
+    let mut i = 0;
+    while i < g {
+        start += group_size(stream, i);
+        i += 1;
+    }
+    start
+}
+
+// The length of the first k entries of the block at a byte.
+fn entries(stream: &[u8], at: usize, k: usize) -> usize
+    requires { ⌜ (128 ≤ length (now stream)) × (at < 2 ^ 32) × (k < 16) ⌝ }
+    ensures { λ r. ⌜ (r ≡ sum (entryLength (now (stream .entry)) at) k) × (r ≤ k * 2 ^ 28) ⌝ }
+{
+    let mut total = 0;
+    let mut i = 0;
+    while i < k {
+        total += entry_length(stream, at, i);
+        i += 1;
+    }
+    total
+}
+
+// Where packet k of group g starts.
+pub fn packet_start(stream: &[u8], g: usize, k: usize) -> usize
+    requires { ⌜ (128 ≤ length (now stream)) × (g < 5) × (k < 16) ⌝ }
+    ensures { λ r. ⌜ (r ≡ packetStart (now (stream .entry)) g k) × (r < 2 ^ 41) ⌝ }
+{
+    group_start(stream, g) + entries(stream, block_at(stream, g), k)
+}
+
+// Its length.
+pub fn packet_length(stream: &[u8], g: usize, k: usize) -> usize
+    requires { ⌜ (128 ≤ length (now stream)) × (g < 5) × (k < 16) ⌝ }
+    ensures { λ r. ⌜ (r ≡ packetLength (now (stream .entry)) g k) × (r < 2 ^ 28) ⌝ }
+{
+    entry_length(stream, block_at(stream, g), k)
+}
+
+// Entry k of group g, if the group has it.
+pub fn find_entry(stream: &[u8], g: usize, k: usize) -> DirEntry
+    requires { ⌜ (128 ≤ length (now stream)) × (g < 5) × (k < 16) ⌝ }
+    ensures { λ r. ⌜ r ≡ entryOf (now (stream .entry)) g k ⌝ }
+{
+    let at = block_at(stream, g);
+    let count = entry_count(stream, at);
+    if count <= k {
+        return DirEntry::Missing;
+    }
+    DirEntry::At(packet_start(stream, g, k), packet_length(stream, g, k))
+}
+
+// Each packet of group g lies within the stream.
+fn check_entries(stream: &[u8], g: usize, count: usize) -> u32
+    requires { ⌜ (128 ≤ length (now stream)) × (g < 5) × (count < 16) ⌝ }
+    ensures { λ r. ⌜ r ≡ each (entryRefusal (now (stream .entry)) g) count ⌝ }
+{
+    let at = block_at(stream, g);
+    let mut start = group_start(stream, g);
+    let mut k = 0;
+    while k < count {
+        let n = entry_length(stream, at, k);
+        if stream.len() < start + n {
+            return 7;
+        }
+        start += n;
+        k += 1;
+    }
+    0
+}
+
+fn check_group(stream: &[u8], g: usize) -> u32
+    requires { ⌜ (128 ≤ length (now stream)) × (g < 5) ⌝ }
+    ensures { λ r. ⌜ r ≡ groupRefusal (now (stream .entry)) g ⌝ }
+{
+    let at = block_at(stream, g);
+    if stream.len() < at + 16 {
+        return 5;
+    }
+    let count = entry_count(stream, at);
+    if 9 < count {
+        return 6;
+    }
+    if stream.len() < at + block_size(stream, at) {
+        return 5;
+    }
+    let bad = check_entries(stream, g, count);
+    if bad != 0 {
+        return bad;
+    }
+    if group_size(stream, g) < entries(stream, at, count) {
+        return 8;
+    }
+    0
+}
+
+// The five groups in turn.
+pub fn parse_directory(stream: &[u8]) -> u32
+    requires { ⌜ 128 ≤ length (now stream) ⌝ }
+    ensures { λ r. ⌜ r ≡ directoryRefusal (now (stream .entry)) ⌝ }
+{
+    let mut g = 0;
+    while g < 5 {
+        let bad = check_group(stream, g);
+        if bad != 0 {
+            return bad;
+        }
+        g += 1;
+    }
+    0
+}
