@@ -1,14 +1,15 @@
 -- The work slice that holds a packet's records holds its coefficients. Assumes nothing.
 use mathlib.Core.Path.{_≡_, refl, sym, ap, _∙_}
 use mathlib.Core.Bool.{Bool, true, false}
-use mathlib.Core.List.{List, _++_}
+use mathlib.Core.List.{List, _++_, append-assoc}
 use Prim.Native.Nat.{ℕ, zero, suc, _+_, _-_, _*_, _/_, _%_, _≤_, _<_}
 use native.Mathlib.Nat.{mul-le-mul-right, mul-assoc, add-mul, add-assoc, mod-lt, div-lt-iff-lt-mul}
 use native.Mathlib.Omega.{arith}
 use lib.Dec.{T}
 use lib.IntN.{ℤ, pos}
-use lib.ListN.{length, getD}
-use Rattle.lists.specs.Lists.{part}
+use lib.ListN.{length, getD, drop, length-append}
+use lib.Seq.{take-at, drop-at}
+use Rattle.lists.specs.Lists.{part, putAt}
 use Rattle.lists.proofs.Tab.{getD-part}
 use Rattle.format.specs.Sizes.{Colour, green, index, Level, l1, l2, l3, Group, base, detail, final, number, stripes, guarded, multiplier, columns, planeRowsOf}
 use Rattle.format.specs.Strip.{width, codedHeight}
@@ -19,10 +20,10 @@ use Rattle.format.specs.Lifting.{SameOn}
 use Rattle.format.specs.Synthesis.{outcome}
 use Rattle.format.proofs.Exact.{Coded, counted, levelled, Tall, tall-of, outcome-like}
 use Rattle.format.proofs.TableLaws.{source-in, chosen-in}
-use Rattle.format.proofs.Lengths.{packet-at}
+use Rattle.format.proofs.Lengths.{length-packet, packet-at}
 use Rattle.format.proofs.Ranges.{multiplier-some}
-use Rattle.tile.specs.Held.{place, components, packetAt, rowAt, held}
-use Rattle.tile.specs.Coefficients.{bandValues}
+use Rattle.tile.specs.Held.{place, components, unit, packetAt, rowAt, held}
+use Rattle.tile.specs.Coefficients.{bandValues, planeValues}
 
 -- row t of component c in record q
 place-split : (q k c m t w : ℕ) → ((q * k + c) * m + t) * w ≡ q * (k * m * w) + (c * m + t) * w
@@ -90,3 +91,63 @@ module _ (s : List ℕ) (i : Colour) (size : Coded (width s) (codedHeight s)) (w
       (λ m c r x l t q.
       let b = goes-in-packet (guarded (codedHeight s)) (stripes (codedHeight s)) (tall-of (codedHeight s) (size .tall)) m i c r t in
       ap (counted m) (held-coefs s m i work (h .kinds m l) (h .bands m l) c r x (b .0) (b .1) q))
+
+-- ---- the records of groups 0 to 3, one after the other from the start of work
+between : (xs ys zs : List ℤ) (a n : ℕ) → length xs ≡ a → length ys ≡ n → part (xs ++ (ys ++ zs)) a n ≡ ys
+between xs ys zs a n p q = rw (drop-at xs (ys ++ zs) a p) (take-at ys zs n q)
+
+module _ (s : List ℕ) (i : Colour) (whole : width s % 16 ≡ 0) (kinds : (m : Group) → T (levelled m) → kind (packetOf s (number m) (index i)) ≡ components m) where
+  pub length-band : (m : Group) → T (levelled m) → length (bandValues s m i) ≡ (stripes (codedHeight s) + 1) * (components m * multiplier m * columns (width s) m)
+  unfolding bandValues
+  length-band m l = rw (kinds m l) at (length-packet (packetOf s (number m) (index i)) (multiplier m) (columns (width s) m) (stripes (codedHeight s) + 1))
+
+  abbrev u : ℕ
+  u = unit (width s) (stripes (codedHeight s))
+
+  eighth : width s / 8 ≡ 2 * (width s / 16)
+  eighth = omega (arith, whole)
+
+  quarter : width s / 4 ≡ 4 * (width s / 16)
+  quarter = omega (arith, whole)
+
+  pub length-base : length (bandValues s base i) ≡ u
+  length-base = omega (arith, length-band base tt)
+
+  pub length-one : length (bandValues s (detail l1) i) ≡ 3 * u
+  length-one = omega (arith, length-band (detail l1) tt)
+
+  pub length-two : length (bandValues s (detail l2) i) ≡ 12 * u
+  length-two = omega (arith, rw eighth at (length-band (detail l2) tt))
+
+  pub length-three : length (bandValues s (detail l3) i) ≡ 48 * u
+  length-three = omega (arith, rw quarter at (length-band (detail l3) tt))
+
+  -- so work holds the plane, where they stand from its start on
+  module _ (size : Coded (width s) (codedHeight s)) (old : List ℤ) where
+    abbrev v0 : List ℤ
+    v0 = bandValues s base i
+
+    abbrev v1 : List ℤ
+    v1 = bandValues s (detail l1) i
+
+    abbrev v2 : List ℤ
+    v2 = bandValues s (detail l2) i
+
+    abbrev v3 : List ℤ
+    v3 = bandValues s (detail l3) i
+
+    bands-held : (rest : List ℤ) (m : Group) → T (levelled m) → HoldsBand s m i ((v0 ++ (v1 ++ (v2 ++ v3))) ++ rest)
+    bands-held rest base l =
+        rw (append-assoc v0 (v1 ++ (v2 ++ v3)) rest) (take-at v0 _ _ (length-band base tt))
+    bands-held rest (detail l1) l =
+        rw (append-assoc v0 (v1 ++ (v2 ++ v3)) rest, append-assoc v1 (v2 ++ v3) rest) (between v0 v1 _ u _ length-base (length-band (detail l1) tt))
+    bands-held rest (detail l2) l =
+        rw (append-assoc v0 (v1 ++ (v2 ++ v3)) rest, append-assoc v1 (v2 ++ v3) rest, append-assoc v2 v3 rest, ← append-assoc v0 v1 (v2 ++ (v3 ++ rest)))
+        (between (v0 ++ v1) v2 (v3 ++ rest) (4 * u) _ (length-append v0 v1 ∙ omega (arith, length-base, length-one)) (length-band (detail l2) tt))
+    bands-held rest (detail l3) l =
+        rw (append-assoc v0 (v1 ++ (v2 ++ v3)) rest, append-assoc v1 (v2 ++ v3) rest, append-assoc v2 v3 rest, ← append-assoc v0 v1 (v2 ++ (v3 ++ rest)), ← append-assoc (v0 ++ v1) v2 (v3 ++ rest))
+        (between ((v0 ++ v1) ++ v2) v3 rest (16 * u) _ (length-append (v0 ++ v1) v2 ∙ omega (arith, length-append v0 v1, length-base, length-one, length-two)) (length-band (detail l3) tt))
+
+    pub plane-held : HoldsPlane s i size (putAt old 0 (planeValues s i))
+    unfolding planeValues
+    plane-held = record { kinds = kinds; bands = λ m l. bands-held (drop (length (planeValues s i)) old) m l }
