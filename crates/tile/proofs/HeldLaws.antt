@@ -11,14 +11,16 @@ use lib.ListN.{length, getD, drop, length-append}
 use lib.Seq.{take-at, drop-at}
 use Rattle.lists.specs.Lists.{part, putAt}
 use Rattle.lists.proofs.Tab.{getD-part}
-use Rattle.format.specs.Sizes.{Colour, green, index, Level, l1, l2, l3, Group, base, detail, final, number, stripes, guarded, multiplier, columns, planeRowsOf}
+use Rattle.format.specs.Sizes.{Colour, green, red, blue, index, Level, l1, l2, l3, Group, base, detail, final, number, stripes, guarded, multiplier, columns, planeRowsOf}
 use Rattle.format.specs.Strip.{width, codedHeight}
 use Rattle.format.specs.Packets.{packetOf, kind}
 use Rattle.format.specs.Coefficients.{recordValues, packetValues, coefs}
-use Rattle.format.specs.Table.{GoesIn, summed, lifted, picked}
-use Rattle.format.specs.Lifting.{SameOn}
-use Rattle.format.specs.Synthesis.{outcome}
+use Rattle.format.specs.Table.{chosen, GoesIn, summed, lifted, picked}
+use Rattle.format.specs.Lifting.{Plane, SameOn}
+use Rattle.format.specs.Synthesis.{outcome, bothGreens, flat, planes}
 use Rattle.format.proofs.Exact.{Coded, counted, levelled, Tall, tall-of, outcome-like}
+use Rattle.format.proofs.GreenLaws.{greens-same}
+use Rattle.format.proofs.PlaceLaws.{flat-same}
 use Rattle.format.proofs.TableLaws.{source-in, chosen-in}
 use Rattle.format.proofs.Lengths.{length-packet, packet-at}
 use Rattle.format.proofs.Ranges.{multiplier-some}
@@ -151,3 +153,41 @@ module _ (s : List ℕ) (i : Colour) (whole : width s % 16 ≡ 0) (kinds : (m : 
     pub plane-held : HoldsPlane s i size (putAt old 0 (planeValues s i))
     unfolding planeValues
     plane-held = record { kinds = kinds; bands = λ m l. bands-held (drop (length (planeValues s i)) old) m l }
+
+-- ---- the three planes
+module _ (s : List ℕ) (size : Coded (width s) (codedHeight s)) where
+  abbrev g : Bool
+  g = guarded (codedHeight s)
+
+  abbrev n : ℕ
+  n = stripes (codedHeight s)
+
+  abbrev r : ℕ
+  r = planeRowsOf (codedHeight s)
+
+  -- red and blue are what comes out of the three levels
+  pub red-plane : (work : List ℤ) → HoldsPlane s red size work
+      → flat r (width s / 2) (outcome g n (width s) red (λ m j. held (width s) n work m)) ≡ planes (width s) (codedHeight s) (coefs s) red
+  unfolding planes
+  red-plane work h = flat-same r (width s / 2) _ _ (outcome-held s red size work h)
+
+  pub blue-plane : (work : List ℤ) → HoldsPlane s blue size work
+      → flat r (width s / 2) (outcome g n (width s) blue (λ m j. held (width s) n work m)) ≡ planes (width s) (codedHeight s) (coefs s) blue
+  unfolding planes
+  blue-plane work h = flat-same r (width s / 2) _ _ (outcome-held s blue size work h)
+
+  -- green is made of what comes out as averages, and of group 4's details
+  pub green-plane : (work : List ℤ) (l : Plane) → kind (packetOf s 4 0) ≡ 1 → HoldsBand s final green work → SameOn r (width s / 2) l (outcome g n (width s) green (coefs s))
+      → flat r (width s) (bothGreens r (width s / 2) l (λ y. held (width s) n work final 0 (chosen g y))) ≡ planes (width s) (codedHeight s) (coefs s) green
+  unfolding planes
+  green-plane work l e h a =
+      flat-same r (width s) _ _ λ y x p q.
+      greens-same r (width s / 2) l _ _ (λ y. coefs s final green 0 (chosen g y)) a
+      (λ y x p q. held-coefs s final green work e h 0 (chosen g y) x (omega arith) (chosen-in g n (tall-of (codedHeight s) (size .tall)) y p) q)
+      y x p (omega (arith, size .whole))
+
+  -- group 4, where its records stand from the start of work on
+  pub final-held : (old : List ℤ) → kind (packetOf s 4 0) ≡ 1 → HoldsBand s final green (putAt old 0 (bandValues s final green))
+  unfolding bandValues
+  final-held old e =
+      take-at (bandValues s final green) _ _ (rw e at (length-packet (packetOf s 4 0) 8 (width s / 2) (n + 1)))
