@@ -1,1 +1,3 @@
 pub mod HeldLaws
+pub mod StoppedLaws
+pub mod GoodLaws
