@@ -16,11 +16,19 @@ mod sony_arw6_curve;
 
 pub use core_stand_in::{par, Error, Result};
 
+pub mod bench;
 pub mod bits;
+pub mod check;
+pub mod damage;
 pub mod encoder;
+pub mod faults;
 pub mod oracle;
+pub mod ours;
 pub mod packets;
 pub mod records;
 pub mod rng;
+pub mod run;
 pub mod size;
 pub mod streams;
+pub mod strips;
+pub mod vectors;
