@@ -10,7 +10,7 @@ use crate::size::Size;
 use crate::streams::{assemble, draw_packet, draw_parts, draw_size, draw_stream, Stream, TILE_PACKETS};
 
 /// Most numbers that are lent in all four slices together.
-const MOST_LENT: usize = 12_000_000;
+const MOST_LENT: usize = 4_500_000;
 
 /// A random trial of a whole stream.
 pub fn draw_whole(rng: &mut Rng) -> Trial {
@@ -22,12 +22,13 @@ pub fn draw_whole(rng: &mut Rng) -> Trial {
 /// A random trial of a damaged stream.
 pub fn draw_damaged(rng: &mut Rng) -> Trial {
     let mut changes = Vec::new();
-    let mut bytes = match rng.below(10) {
+    let mut bytes = match rng.below(12) {
         0 => draw_directory_alone(rng),
         1 => draw_one_packet(rng),
         2 => draw_wrong_kind(rng).bytes,
         3 => draw_wrong_count(rng).bytes,
-        4 => draw_byte_damage(rng),
+        4 | 5 => draw_byte_damage(rng),
+        6 if rng.one_in(4) => draw_tall(rng),
         _ => {
             let stream = if rng.one_in(4) { draw_empty(rng) } else { draw_stream(rng) };
             for _ in 0..rng.pick(&[1, 1, 1, 2, 3]) {
@@ -85,6 +86,12 @@ fn draw_one_packet(rng: &mut Rng) -> Vec<u8> {
     let size = Size { width: 16, half: rng.within(60, 600) };
     let trailing = rng.below(200);
     one_packet(size, trailing).bytes
+}
+
+/// A narrow stream whose header says a height above 32,767.
+fn draw_tall(rng: &mut Rng) -> Vec<u8> {
+    let size = Size { width: 16, half: rng.within(16_384, 65_535) };
+    empty_stream(size, 2).bytes
 }
 
 /// A stream in which one packet has the other kind, with record headers and rows to match.

@@ -3,7 +3,7 @@
 
 use crate::packets::{packet, record_at, Record, Room, UNIT};
 use crate::size::Size;
-use crate::streams::{assemble, entry_at, Parts, Stream, PACKETS, TILE_PACKETS};
+use crate::streams::{assemble, entry_at, header, Parts, Stream, DIRECTORY, PACKETS, TILE_PACKETS};
 
 /// A stream with the lengths of the slices lent for green, red, blue and work.
 #[derive(Debug, Clone, PartialEq, Eq)]
@@ -106,13 +106,12 @@ fn height_faults(size: Size) -> Vec<Fault> {
     faults
 }
 
-/// Numbers 6 to 10 in the directory's block of a group.
-fn directory_faults(stream: &Stream, group: usize) -> Vec<Fault> {
+/// Numbers 6 to 10 in the directory's block of a group; 9 and 10 are those of packet `index`.
+fn directory_faults(stream: &Stream, group: usize, index: usize) -> Vec<Fault> {
     let (block, packets) = (stream.blocks[group], &stream.packets[group]);
-    let (needed, last) = (TILE_PACKETS[group], packets.len() - 1);
-    let (start, length) = packets[last];
-    let units = length / UNIT;
-    let left = (stream.bytes.len() - start) / UNIT;
+    let last = packets.len() - 1;
+    let left = (stream.bytes.len() - packets[last].0) / UNIT;
+    let (here, units) = (entry_at(block, index), packets[index].1 / UNIT);
     let size_at = 16 + 3 * group;
     let total = packets.iter().map(|p| p.1).sum::<usize>() / UNIT;
     vec![
@@ -120,8 +119,8 @@ fn directory_faults(stream: &Stream, group: usize) -> Vec<Fault> {
         fault(6, put(block, &[0xff]), put(block, &[0xf0 | packets.len() as u8])),
         fault(7, put24(entry_at(block, last), left + 1), put24(entry_at(block, last), left)),
         fault(8, put24(size_at, total - 1), put24(size_at, total)),
-        fault(9, put(block, &[needed as u8 - 1]), put(block, &[needed as u8])),
-        fault(10, put24(entry_at(block, last), 0), put24(entry_at(block, last), units)),
+        fault(9, put(block, &[index as u8]), put(block, &[packets.len() as u8])),
+        fault(10, put24(here, 0), put24(here, units)),
     ]
 }
 
@@ -165,7 +164,7 @@ pub fn faults(stream: &Stream, group: usize, index: usize) -> Vec<Fault> {
     let mut all = header_faults();
     all.extend(size_faults());
     all.extend(lending_faults(stream.size));
-    all.extend(directory_faults(stream, group));
+    all.extend(directory_faults(stream, group, index));
     all.extend(packet_faults(stream, group, index));
     all.extend(height_faults(stream.size));
     all
@@ -189,18 +188,67 @@ pub fn one_packet(size: Size, trailing: usize) -> Stream {
     assemble(&Parts { size, groups, spare: [0; 5], trailing: vec![0; trailing] })
 }
 
-/// A stream whose directory blocks have the given entry counts and lengths of 0, as long as the
-/// directory with `trailing` bytes. Number 5 depends on its length.
+/// As [`one_packet`] at a guarded height, with one record fewer in the first packet, and in the
+/// first packet of group 1 all n + 1 records, of kind 1. Number 22 or else 23 is that packet's.
+pub fn two_packets(size: Size, trailing: usize) -> Stream {
+    let records = vec![Record::default(); size.n() + 1];
+    let mut groups: [Vec<Vec<u8>>; 5] = std::array::from_fn(|g| vec![Vec::new(); TILE_PACKETS[g]]);
+    groups[0][0] = packet(1, &records[1..], Room::default());
+    groups[1][0] = packet(1, &records, Room::default());
+    assemble(&Parts { size, groups, spare: [0; 5], trailing: vec![0; trailing] })
+}
+
+/// A stream of `length` bytes, at least 128, whose directory blocks have the given entry counts
+/// and no lengths. Number 5 depends on the length.
 pub fn directory_alone(size: Size, counts: [u8; 5], length: usize) -> Vec<u8> {
-    let mut bytes = crate::streams::header(size);
-    let mut block = crate::streams::DIRECTORY;
+    let mut bytes = header(size);
+    let mut block = DIRECTORY;
+    bytes.resize(length, 0);
     for count in counts {
-        if bytes.len() < block + 32 {
-            bytes.resize(block + 32, 0);
+        if let Some(byte) = bytes.get_mut(block) {
+            *byte = count;
         }
-        bytes[block] = count;
         block += if count >= 5 { 32 } else { 16 };
     }
-    bytes.resize(length.max(PACKETS), 0);
     bytes
+}
+
+#[cfg(test)]
+mod tests {
+    use super::*;
+    use crate::oracle;
+
+    fn answer(stream: &[u8], changes: &[Change], size: Size) -> u64 {
+        let mut trial = Trial { stream: stream.to_vec(), lent: [0; 4] };
+        changes.iter().for_each(|c| c.apply(&mut trial));
+        let header = oracle::header_size(&trial.stream).unwrap_or(size);
+        trial.lent = header.needed();
+        changes.iter().filter(|c| matches!(c, Change::Lend { .. })).for_each(|c| c.apply(&mut trial));
+        oracle::decode(&trial.stream, trial.lent).err().unwrap_or(0)
+    }
+
+    #[test]
+    fn faults_have_their_numbers_and_near_values_do_not() {
+        let size = Size { width: 16, half: 8 };
+        let base = empty_stream(size, 2);
+        assert_eq!(answer(&base.bytes, &[], size), 0);
+        for (group, index) in [(0, 0), (1, 0), (2, 1), (3, 2), (4, 0)] {
+            for fault in faults(&base, group, index) {
+                let bad = answer(&base.bytes, &fault.bad, size);
+                assert_eq!(bad, fault.number, "{group} {index} {:?}", fault.bad);
+                let near = answer(&base.bytes, &fault.near, size);
+                assert_ne!(near, fault.number, "{group} {index} {:?}", fault.near);
+            }
+        }
+    }
+
+    #[test]
+    fn record_count_by_length() {
+        let size = Size { width: 16, half: 104 };
+        assert_eq!(answer(&one_packet(size, 15).bytes, &[], size), 22);
+        assert_eq!(answer(&one_packet(size, 16).bytes, &[], size), 10);
+        let guarded = Size { width: 16, half: 129 };
+        assert_eq!(answer(&two_packets(guarded, 15).bytes, &[], guarded), 22);
+        assert_eq!(answer(&two_packets(guarded, 16).bytes, &[], guarded), 23);
+    }
 }

@@ -25,6 +25,8 @@ pub mod faults;
 pub mod oracle;
 pub mod ours;
 pub mod packets;
+#[cfg(test)]
+mod points;
 pub mod records;
 pub mod rng;
 pub mod run;

@@ -2,13 +2,14 @@
 //! the original in its place.
 
 #[cfg(not(feature = "mock"))]
-#[path = "ours/ffi.rs"]
-mod ours;
-#[cfg(feature = "mock")]
-#[path = "ours/mock.rs"]
-mod ours;
+mod ffi;
+#[cfg(any(test, feature = "mock"))]
+pub mod mock;
 
-pub use ours::Ours;
+#[cfg(not(feature = "mock"))]
+pub use ffi::Library as Ours;
+#[cfg(feature = "mock")]
+pub use mock::Mock as Ours;
 
 /// The answer for a stream, as the C interface gives it. The height is the coded height H.
 #[repr(C)]

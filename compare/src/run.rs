@@ -98,3 +98,105 @@ pub fn run(decoder: &impl Decoder, seed: u64, count: usize) -> (Tally, Option<(C
     });
     (tally, told)
 }
+
+#[cfg(test)]
+mod tests {
+    use super::*;
+    use crate::check::{Case, Seen};
+    use crate::ours::mock::Mock;
+    use crate::ours::{Decoded, Slices};
+
+    #[test]
+    fn every_refusal_is_reached() {
+        let (tally, failing) = run(&Mock, 1, 12_000);
+        assert_eq!(failing, None);
+        assert!(tally.plain > 100 && tally.guarded > 100 && tally.stopped > 100 && tally.strips > 100);
+        for number in 1..=24 {
+            assert!(tally.refused[number] >= 10, "number {number}: {}", tally.refused[number]);
+        }
+    }
+
+    #[test]
+    fn cases_depend_on_the_seed_alone() {
+        let draw = |seed| draw_case(&mut Rng::new(seed));
+        assert!((0..50).all(|seed| draw(seed) == draw(seed)));
+        assert_ne!(draw(1), draw(2));
+    }
+
+    /// A decoder with one mistake.
+    struct Mistaken(fn(&[u8], &mut Slices, &mut Decoded));
+
+    impl Decoder for Mistaken {
+        fn tile_count(&self, strip: &[u8], frame: (usize, usize)) -> usize {
+            Mock.tile_count(strip, frame)
+        }
+
+        fn tile_field(&self, strip: &[u8], frame: (usize, usize), ordinal: usize, field: usize) -> usize {
+            Mock.tile_field(strip, frame, ordinal, field)
+        }
+
+        fn decode_stream(&self, stream: &[u8], slices: &mut Slices) -> Decoded {
+            let mut decoded = Mock.decode_stream(stream, slices);
+            (self.0)(stream, slices, &mut decoded);
+            decoded
+        }
+    }
+
+    #[test]
+    fn mistakes_are_found() {
+        let mistakes: [fn(&[u8], &mut Slices, &mut Decoded); 8] = [
+            |_, _, decoded| decoded.stopped = 0,
+            |_, _, decoded| decoded.rows = decoded.height / 2,
+            |_, _, decoded| decoded.refusal = if decoded.refusal == 11 { 18 } else { decoded.refusal },
+            |stream, _, decoded| decoded.width = (decoded.refusal == 9 && stream.len() > 8) as u64,
+            |_, slices, decoded| {
+                slices[0].iter_mut().take(1).for_each(|g| *g ^= (decoded.refusal == 0) as i32)
+            },
+            |_, slices, decoded| {
+                slices[3].iter_mut().take(1).for_each(|w| *w |= (decoded.refusal == 0) as i32)
+            },
+            |_, slices, _| slices[1].iter_mut().last().into_iter().for_each(|r| *r ^= 1),
+            |_, slices, decoded| {
+                slices[2].iter_mut().take((decoded.refusal > 0) as usize).for_each(|b| *b = 0)
+            },
+        ];
+        for (i, mistake) in mistakes.into_iter().enumerate() {
+            let (tally, failing) = run(&Mistaken(mistake), 5, 2000);
+            let (case, what) = failing.expect("the mistake shows");
+            assert!(tally.mismatches > 0 && !what.is_empty(), "mistake {i}");
+            assert!(matches!(case, Case::Stream(_)));
+        }
+    }
+
+    /// A locator that gives up when the table fails.
+    struct NoFallback;
+
+    impl Decoder for NoFallback {
+        fn tile_count(&self, strip: &[u8], frame: (usize, usize)) -> usize {
+            let by_table = strip.first().is_some_and(|&b| b > 0);
+            if by_table {
+                Mock.tile_count(strip, frame)
+            } else {
+                0
+            }
+        }
+
+        fn tile_field(&self, strip: &[u8], frame: (usize, usize), ordinal: usize, field: usize) -> usize {
+            Mock.tile_field(strip, frame, ordinal, field)
+        }
+
+        fn decode_stream(&self, stream: &[u8], slices: &mut Slices) -> Decoded {
+            Mock.decode_stream(stream, slices)
+        }
+    }
+
+    #[test]
+    fn failing_cases_are_made_smaller() {
+        let (_, failing) = run(&NoFallback, 1, 2000);
+        let (case, what) = failing.expect("the mistake shows");
+        assert_eq!(what, "tile count: ours 0, the original 1");
+        let Case::Strip(strip) = case else { panic!("a strip") };
+        assert!(strip.bytes.len() < 700);
+        assert_eq!(crate::check::check(&Mock, &Case::Strip(strip)), Ok(Seen::Tiles(1)));
+    }
+}

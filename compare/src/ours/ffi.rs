@@ -27,9 +27,9 @@ extern "C" {
 }
 
 /// The proved library.
-pub struct Ours;
+pub struct Library;
 
-impl Decoder for Ours {
+impl Decoder for Library {
     fn tile_count(&self, strip: &[u8], frame: (usize, usize)) -> usize {
         // SAFETY: the pointer and the length are those of one slice, which the call only reads.
         unsafe { arw6_tile_count(strip.as_ptr(), strip.len(), frame.0, frame.1) }

@@ -3,9 +3,9 @@
 use super::{Decoded, Decoder, Slices};
 use crate::oracle;
 
-pub struct Ours;
+pub struct Mock;
 
-impl Decoder for Ours {
+impl Decoder for Mock {
     fn tile_count(&self, strip: &[u8], frame: (usize, usize)) -> usize {
         oracle::tiles(strip, frame).len()
     }
