@@ -12,7 +12,7 @@ const ROUNDS: usize = 9;
 
 /// The greatest selectors, and the means that give about 1, 3 and 5 bits for each coefficient.
 const SELECTORS: [u32; 3] = [0, 2, 4];
-const MEANS: [f64; 3] = [0.35, 2.0, 9.0];
+const MEANS: [f64; 3] = [0.46, 1.42, 4.5];
 
 /// What is measured: a whole tile, or its coefficients alone, taken as the tile's time less that
 /// of a tile of the same size whose records are empty.

@@ -226,4 +226,17 @@ mod tests {
             }
         }
     }
+
+    /// Takes some seconds and more than a gigabyte: `cargo test -- --ignored`.
+    #[test]
+    #[ignore]
+    fn the_original_refuses_what_3_does() {
+        for half in [16_376, 16_383] {
+            let size = Size { width: 8208, half };
+            assert!(size.too_large());
+            let stream = crate::faults::empty_stream(size, size.n() + 1).bytes;
+            let refused = decode_stream(&stream, false).err();
+            assert_eq!(refused, Some(Error("ARW6: plane too large".to_string())));
+        }
+    }
 }

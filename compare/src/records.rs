@@ -103,10 +103,10 @@ impl Style {
     pub const ODD: [Style; 5] = [Style::Empty, Style::Noise, Style::Wide, Style::Cut, Style::Same];
 }
 
-/// Draws one record of the style.
+/// Draws one record of the style; a payload that no byte length can tell is cut.
 pub fn draw_styled(rng: &mut Rng, shape: Shape, recipe: &Recipe, style: Style) -> Record {
     let selectors = std::array::from_fn(|_| rng.below(recipe.selector as usize + 1) as u32);
-    let payload = match style {
+    let mut payload = match style {
         Style::Coded => coded(rng, shape, &selectors, recipe, false),
         Style::Empty => Vec::new(),
         Style::Noise => {
@@ -121,5 +121,6 @@ pub fn draw_styled(rng: &mut Rng, shape: Shape, recipe: &Recipe, style: Style) -
         }
         Style::Same => vec![rng.pick(&[0x00, 0xff, 0x55, 0xaa]); rng.within(1, 50)],
     };
+    payload.truncate(65_535);
     Record { selectors, payload }
 }

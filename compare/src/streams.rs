@@ -95,9 +95,13 @@ fn write_block(head: &mut [u8], block: usize, group: &[Vec<u8>]) {
     }
 }
 
-/// A random size: mostly small, with the edges often and some long thin ones.
+/// A random size: mostly small, with the edges often, some long thin ones and few as wide or as
+/// high as can be.
 pub fn draw_size(rng: &mut Rng) -> Size {
     let (width, height) = match rng.below(12) {
+        0 | 1 if rng.one_in(60) => {
+            rng.pick(&[(65_520, 16), (65_520, 18), (16, 32_752), (16, 32_766), (32, 32_754)])
+        }
         0 => (rng.pick(&[256, 512, 1024]), rng.pick(&[16, 18, 30, 32, 34])),
         1 => (16, rng.pick(&[400, 1000, 2000, 4096, 4098])),
         2..=5 => (16 * rng.within(1, 4), rng.pick(&[14, 16, 18, 26, 30, 32, 34, 48, 50])),
@@ -178,7 +182,7 @@ fn add_packets(rng: &mut Rng, parts: &mut Parts, group: usize, count: usize) {
 
 /// Gives one of the groups 0 to 3 a block of 32 bytes, so that group 4's block lies at byte 128:
 /// the first packet's header is made to read as that block.
-fn push_directory_into_packet(rng: &mut Rng, parts: &mut Parts, recipe: &Recipe) {
+pub fn push_directory_into_packet(rng: &mut Rng, parts: &mut Parts, recipe: &Recipe) {
     let length = parts.groups[4][0].len() / UNIT;
     if length > 24 || parts.groups.iter().any(|g| g.len() >= 5) {
         return;
@@ -204,4 +208,28 @@ pub fn draw_stream(rng: &mut Rng) -> Stream {
     let size = draw_size(rng);
     let recipe = Recipe::draw(rng);
     assemble(&draw_parts(rng, size, &recipe))
+}
+
+#[cfg(test)]
+mod tests {
+    use super::*;
+    use crate::oracle;
+
+    #[test]
+    fn whole_streams_are_accepted() {
+        let mut rng = Rng::new(3);
+        let (mut past, mut trailing, mut fewer) = (0, 0, 0);
+        for _ in 0..1500 {
+            let stream = draw_stream(&mut rng);
+            let answer = oracle::decode(&stream.bytes, stream.size.needed());
+            let expected = if stream.size.height() < 16 { Some(24) } else { None };
+            assert_eq!(answer.err(), expected);
+            past += (stream.blocks[4] >= PACKETS || stream.packets[4].len() >= 5) as usize;
+            trailing += (stream.bytes.len() % UNIT != 0) as usize;
+            let first = stream.packets[0][0].0;
+            let records = u16::from_be_bytes([stream.bytes[first + 7], stream.bytes[first + 8]]) as usize;
+            fewer += (records == stream.size.n()) as usize;
+        }
+        assert!(past > 50 && trailing > 50 && fewer > 50, "{past} {trailing} {fewer}");
+    }
 }

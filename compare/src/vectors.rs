@@ -7,7 +7,7 @@ use crate::packets::{packet, Room};
 use crate::records::{draw_styled, Recipe, Style};
 use crate::rng::Rng;
 use crate::size::{Shape, Size};
-use crate::streams::{assemble, draw_parts, Stream};
+use crate::streams::{assemble, draw_parts, push_directory_into_packet, Stream};
 use crate::strips::{draw_strip, edge_strips, Strip};
 
 /// Cases one after the other, led by their number.
@@ -65,7 +65,7 @@ fn size(width: usize, height: usize) -> Size {
 fn strips(rng: &mut Rng) -> Vectors {
     let mut out = Vectors::default();
     edge_strips().iter().for_each(|s| put_strip(&mut out, s));
-    for _ in 0..90 {
+    for _ in 0..70 {
         let mut strip = draw_strip(rng);
         while strip.bytes.len() > 4000 {
             strip = draw_strip(rng);
@@ -231,7 +231,7 @@ fn apart(a: &Fault, b: &Fault) -> bool {
 fn records(rng: &mut Rng) -> Vectors {
     let styles = [Style::Coded, Style::Empty, Style::Noise, Style::Wide, Style::Cut, Style::Same];
     let mut out = Vectors::default();
-    for group in 0..5 {
+    for group in [0, 1, 2, 3, 4, 0, 1, 2, 3, 4] {
         for style in styles {
             put_records(&mut out, rng, group, style, false);
         }
@@ -280,9 +280,8 @@ fn tiles(rng: &mut Rng) -> Vectors {
         (32, 16),
         (32, 34),
         (48, 30),
-        (48, 16),
+        (64, 16),
         (64, 18),
-        (64, 32),
     ];
     let mut out = Vectors::default();
     for (width, height) in sizes {
@@ -292,7 +291,17 @@ fn tiles(rng: &mut Rng) -> Vectors {
             put_tile(&mut out, &stream.bytes);
         }
     }
+    put_tile(&mut out, &directory_in_packet(rng).bytes);
     out
+}
+
+/// A stream whose fifth directory block is the first packet's header, with bytes after its end.
+fn directory_in_packet(rng: &mut Rng) -> Stream {
+    let recipe = Recipe::ordinary(0.2, 2);
+    let mut parts = draw_parts(rng, size(16, 16), &recipe);
+    push_directory_into_packet(rng, &mut parts, &recipe);
+    parts.trailing = rng.bytes(5);
+    assemble(&parts)
 }
 
 fn put_tile(out: &mut Vectors, stream: &[u8]) {
