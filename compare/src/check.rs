@@ -115,6 +115,43 @@ fn check_strip(decoder: &impl Decoder, strip: &Strip) -> Result<Seen, String> {
     Ok(if expected.is_empty() { Seen::Refused(1) } else { Seen::Tiles(expected.len()) })
 }
 
+/// Most cases that are tried to make one smaller.
+const ATTEMPTS: usize = 4000;
+
+/// Makes a failing case smaller: cuts its end and clears stretches of it as long as it still fails.
+pub fn shrink(decoder: &impl Decoder, case: &Case) -> Case {
+    let mut best = case.clone();
+    let mut attempts = 0;
+    let mut keep = |best: &mut Case, bytes: Vec<u8>| {
+        attempts += 1;
+        let smaller = best.with_bytes(bytes);
+        let fails = attempts <= ATTEMPTS && check(decoder, &smaller).is_err();
+        if fails {
+            *best = smaller;
+        }
+        fails
+    };
+    let mut step = best.bytes().len();
+    while step > 0 {
+        while best.bytes().len() >= step {
+            let shorter = best.bytes()[..best.bytes().len() - step].to_vec();
+            if !keep(&mut best, shorter) {
+                break;
+            }
+        }
+        for at in (0..best.bytes().len()).step_by(step) {
+            let mut cleared = best.bytes().to_vec();
+            let end = (at + step).min(cleared.len());
+            if cleared[at..end].iter().any(|&b| b != 0) {
+                cleared[at..end].fill(0);
+                keep(&mut best, cleared);
+            }
+        }
+        step /= 2;
+    }
+    best
+}
+
 impl Case {
     fn bytes(&self) -> &[u8] {
         match self {
@@ -129,39 +166,7 @@ impl Case {
             Case::Strip(strip) => Case::Strip(Strip { bytes, frame: strip.frame }),
         }
     }
-}
 
-/// Makes a failing case smaller: cuts its end and clears stretches of it as long as it still fails.
-pub fn shrink(decoder: &impl Decoder, case: &Case) -> Case {
-    let mut best = case.clone();
-    let fails = |case: &Case| check(decoder, case).is_err();
-    let mut step = best.bytes().len();
-    while step > 0 {
-        while best.bytes().len() >= step {
-            let shorter = best.with_bytes(best.bytes()[..best.bytes().len() - step].to_vec());
-            if !fails(&shorter) {
-                break;
-            }
-            best = shorter;
-        }
-        for at in (0..best.bytes().len()).step_by(step) {
-            let mut bytes = best.bytes().to_vec();
-            let end = (at + step).min(bytes.len());
-            if bytes[at..end].iter().all(|&b| b == 0) {
-                continue;
-            }
-            bytes[at..end].fill(0);
-            let cleared = best.with_bytes(bytes);
-            if fails(&cleared) {
-                best = cleared;
-            }
-        }
-        step /= 2;
-    }
-    best
-}
-
-impl Case {
     /// The case in words, without its bytes.
     pub fn describe(&self) -> String {
         match self {

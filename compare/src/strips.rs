@@ -77,10 +77,10 @@ fn spoil(rng: &mut Rng, entry: &mut Entry, frame: (usize, usize)) {
     }
 }
 
-/// A strip whose table has `count` entries, one of them perhaps spoilt.
-fn draw_table(rng: &mut Rng, frame: (usize, usize), count: usize) -> Vec<u8> {
+/// A strip whose table has `count` entries, one of them spoilt if so asked.
+fn draw_table(rng: &mut Rng, frame: (usize, usize), count: usize, spoilt: bool) -> Vec<u8> {
     let mut strip = vec![0; 640];
-    let spoilt = if rng.one_in(2) { rng.below(count.max(1)) } else { usize::MAX };
+    let spoilt = if spoilt { rng.below(count.max(1)) } else { usize::MAX };
     let mut free = STREAM;
     put_words(&mut strip, 0, &[count as u32]);
     for i in 0..count {
@@ -122,12 +122,32 @@ fn put_frame_stream(rng: &mut Rng, strip: &mut Vec<u8>, frame: (usize, usize)) {
     }
 }
 
+fn draw_sides(rng: &mut Rng) -> (usize, usize) {
+    (16 * rng.within(1, 20), 2 * rng.within(1, 100))
+}
+
+/// A strip with a table of `count` entries, one of them spoilt if so asked, and nothing else amiss.
+pub fn draw_table_strip(rng: &mut Rng, count: usize, spoilt: bool) -> Strip {
+    let frame = draw_sides(rng);
+    Strip { bytes: draw_table(rng, frame, count, spoilt), frame }
+}
+
+/// A strip with a table that fails in one entry, and at offset 512 a stream of the frame's size.
+pub fn draw_fallback_strip(rng: &mut Rng, count: usize) -> Strip {
+    let Strip { mut bytes, frame } = draw_table_strip(rng, count, false);
+    let size = Size { width: frame.0, half: frame.1 / 2 };
+    put_header(&mut bytes, STREAM, size, rng.below(2));
+    let failing = rng.below(count.min(16));
+    put_words(&mut bytes, TABLE + ENTRY * failing, &[u32::MAX]);
+    Strip { bytes, frame }
+}
+
 /// A random strip.
 pub fn draw_strip(rng: &mut Rng) -> Strip {
-    let frame = (16 * rng.within(1, 20), 2 * rng.within(1, 100));
     let count = rng.pick(&[0, 1, 1, 2, 3, 4, 8, 15, 16, 17]);
-    let mut bytes = draw_table(rng, frame, count);
-    if rng.one_in(3) {
+    let spoilt = rng.one_in(2);
+    let Strip { mut bytes, frame } = draw_table_strip(rng, count, spoilt);
+    if rng.one_in(if spoilt { 2 } else { 10 }) {
         put_frame_stream(rng, &mut bytes, frame);
     }
     draw_end(rng, &mut bytes);
@@ -160,7 +180,7 @@ fn flip(rng: &mut Rng, bytes: &mut [u8]) {
 
 /// Mostly the frame that the tiles were drawn for.
 fn draw_frame(rng: &mut Rng, frame: (usize, usize)) -> (usize, usize) {
-    match rng.below(16) {
+    match rng.below(24) {
         0 => (0, frame.1),
         1 => (frame.0, 0),
         2 => (frame.0 - 1, frame.1),

@@ -8,7 +8,7 @@ use crate::records::{draw_styled, Recipe, Style};
 use crate::rng::Rng;
 use crate::size::{Shape, Size};
 use crate::streams::{assemble, draw_parts, push_directory_into_packet, Stream};
-use crate::strips::{draw_strip, edge_strips, Strip};
+use crate::strips::{draw_fallback_strip, draw_strip, draw_table_strip, edge_strips, Strip};
 
 /// Cases one after the other, led by their number.
 #[derive(Default)]
@@ -65,11 +65,13 @@ fn size(width: usize, height: usize) -> Size {
 fn strips(rng: &mut Rng) -> Vectors {
     let mut out = Vectors::default();
     edge_strips().iter().for_each(|s| put_strip(&mut out, s));
-    for _ in 0..70 {
+    for count in [1, 2, 3, 4, 8, 15, 16, 17] {
+        put_strip(&mut out, &draw_table_strip(rng, count, false));
+        put_strip(&mut out, &draw_table_strip(rng, count, true));
+        put_strip(&mut out, &draw_fallback_strip(rng, count));
+    }
+    for _ in 0..40 {
         let mut strip = draw_strip(rng);
-        while strip.bytes.len() > 4000 {
-            strip = draw_strip(rng);
-        }
         strip.frame = (strip.frame.0.min(65_536), strip.frame.1.min(65_536));
         put_strip(&mut out, &strip);
     }
@@ -244,13 +246,14 @@ fn records(rng: &mut Rng) -> Vectors {
 /// A packet of records, most of them of the style, with one record fewer than expected if so
 /// asked.
 fn put_records(out: &mut Vectors, rng: &mut Rng, group: usize, style: Style, fewer: bool) {
-    let width = rng.pick(&[[16, 48, 256], [16, 80, 128], [16, 48, 64], [16, 32, 48], [16, 32, 48]][group]);
+    let width = rng.pick(&[[16, 48, 512], [16, 80, 256], [16, 48, 64], [16, 32, 48], [16, 32, 48]][group]);
     let shape = size(width, 16).shape(group);
     let recipe = Recipe { selector: rng.pick(&[0, 4, 15]), loose: true, ..Recipe::ordinary(0.0, 0) };
     let expected = rng.within(2, 4);
     let count = expected - fewer as usize;
     let drawn = |rng: &mut Rng| {
-        let recipe = Recipe { mean: rng.pick(&[0.3, 3.0, 40.0, 100_000.0]), ..recipe.clone() };
+        let means = if style == Style::Cut { [40.0, 1e5, 1e5] } else { [0.3, 10.0, 1e5] };
+        let recipe = Recipe { mean: rng.pick(&means), ..recipe.clone() };
         let style = if rng.one_in(3) { Style::Coded } else { style };
         draw_styled(rng, shape, &recipe, style)
     };
@@ -361,7 +364,7 @@ mod tests {
     #[test]
     fn strips_read_back() {
         let mut counts = [0; 17];
-        read_all("strips", 150_000, |r| {
+        read_all("strips", 200_000, |r| {
             let [length, width, height, count] = r.words();
             let strip = r.take(length);
             let tiles: Vec<[usize; 6]> = (0..count).map(|_| r.words()).collect();
