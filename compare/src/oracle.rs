@@ -190,6 +190,15 @@ mod tests {
         assert!(TEXTS.iter().all(|(t, _)| texts.iter().any(|s| s == t)));
     }
 
+    /// Without the added `pub(crate)` the file is the original, byte for byte (FNV-1a of 64 bits).
+    #[test]
+    fn the_original_is_unchanged() {
+        let text = include_str!("original/sony_arw6.rs").replace("pub(crate) ", "");
+        let mix = |hash: u64, byte: u8| (hash ^ byte as u64).wrapping_mul(0x100_0000_01b3);
+        let hash = text.bytes().fold(0xcbf2_9ce4_8422_2325, mix);
+        assert_eq!((text.len(), hash), (38700, 0x2d93_87a0_e2c6_f0d5));
+    }
+
     #[test]
     fn numbers_are_one_to_one() {
         let mut numbers: Vec<u64> = TEXTS.iter().map(|&(_, n)| n).collect();

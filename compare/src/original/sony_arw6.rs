@@ -553,7 +553,7 @@ pub(crate) fn parse_packet(data: &[u8]) -> Result<Packet<'_>> {
     Ok(Packet { kind, data, records })
 }
 
-pub(crate) fn row_multiplier(group: usize) -> usize {
+fn row_multiplier(group: usize) -> usize {
     match group {
         4 => 8,
         0 => 1,
