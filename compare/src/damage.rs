@@ -41,10 +41,7 @@ pub fn draw_damaged(rng: &mut Rng) -> Trial {
         let length = rng.below(bytes.len() + 1);
         bytes.truncate(length);
     }
-    let mut trial = Trial { stream: bytes, lent: [0; 4] };
-    changes.iter().for_each(|c| c.apply(&mut trial));
-    trial.lent = draw_lengths(rng, &trial.stream);
-    trial
+    Trial::new(bytes, &changes, |stream| draw_lengths(rng, stream))
 }
 
 /// The changes of a random fault, or of its near value.

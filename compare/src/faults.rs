@@ -20,17 +20,27 @@ pub enum Change {
     Lend { slice: usize, length: usize },
 }
 
-impl Change {
-    /// Bytes past the stream's end are dropped.
-    pub fn apply(&self, trial: &mut Trial) {
-        match self {
-            Change::Put { at, bytes } => {
-                let room = trial.stream.iter_mut().skip(*at);
-                room.zip(bytes).for_each(|(to, from)| *to = *from);
+impl Trial {
+    /// The stream with the changes, and slices of the lengths that `lengths` gives for it, which
+    /// the changes may shorten in turn. Bytes past the stream's end are dropped.
+    pub fn new(mut stream: Vec<u8>, changes: &[Change], lengths: impl FnOnce(&[u8]) -> [usize; 4]) -> Trial {
+        for change in changes {
+            match change {
+                Change::Put { at, bytes } => {
+                    let room = stream.iter_mut().skip(*at);
+                    room.zip(bytes).for_each(|(to, from)| *to = *from);
+                }
+                Change::Cut(length) => stream.truncate(*length),
+                Change::Lend { .. } => {}
             }
-            Change::Cut(length) => trial.stream.truncate(*length),
-            Change::Lend { slice, length } => trial.lent[*slice] = *length,
         }
+        let mut lent = lengths(&stream);
+        for change in changes {
+            if let Change::Lend { slice, length } = change {
+                lent[*slice] = *length;
+            }
+        }
+        Trial { stream, lent }
     }
 }
 
@@ -219,11 +229,8 @@ mod tests {
     use crate::oracle;
 
     fn answer(stream: &[u8], changes: &[Change], size: Size) -> u64 {
-        let mut trial = Trial { stream: stream.to_vec(), lent: [0; 4] };
-        changes.iter().for_each(|c| c.apply(&mut trial));
-        let header = oracle::header_size(&trial.stream).unwrap_or(size);
-        trial.lent = header.needed();
-        changes.iter().filter(|c| matches!(c, Change::Lend { .. })).for_each(|c| c.apply(&mut trial));
+        let needed = |stream: &[u8]| oracle::header_size(stream).unwrap_or(size).needed();
+        let trial = Trial::new(stream.to_vec(), changes, needed);
         oracle::decode(&trial.stream, trial.lent).err().unwrap_or(0)
     }
 

@@ -27,14 +27,12 @@ fn put_refusal(out: &mut Vectors, trial: &Trial) {
     out.bytes(&trial.stream);
 }
 
-/// The stream with slices as long as it needs after the changes, which may shorten them again.
+/// The stream with the changes and slices as long as it needs, but short ones for a large plane.
 fn trial(stream: &[u8], changes: &[Change]) -> Trial {
-    let mut trial = Trial { stream: stream.to_vec(), lent: [0; 4] };
-    changes.iter().for_each(|c| c.apply(&mut trial));
-    let fitting = oracle::header_size(&trial.stream).filter(|s| s.needed()[3] < 1_000_000);
-    trial.lent = fitting.map_or([64; 4], Size::needed);
-    changes.iter().filter(|c| matches!(c, Change::Lend { .. })).for_each(|c| c.apply(&mut trial));
-    trial
+    Trial::new(stream.to_vec(), changes, |stream| {
+        let fitting = oracle::header_size(stream).filter(|s| s.needed()[3] < 1_000_000);
+        fitting.map_or([64; 4], Size::needed)
+    })
 }
 
 /// For each fault of one field the refused stream and, next to it, the one with the near value.
