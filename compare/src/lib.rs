@@ -33,4 +33,5 @@ pub mod run;
 pub mod size;
 pub mod streams;
 pub mod strips;
+pub mod sweep;
 pub mod vectors;

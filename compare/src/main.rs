@@ -1,7 +1,7 @@
 //! The commands of the comparison.
 
 use compare::ours::Ours;
-use compare::{bench, run, vectors};
+use compare::{bench, run, sweep, vectors};
 use std::process::ExitCode;
 
 const HELP: &str = "\
@@ -11,6 +11,9 @@ compare: the proved ARW6 tile decoder against the original in Rust
         N random cases (default 10000) over streams, damaged streams and strips, and one table.
         A mismatch ends with status 1, and the smallest case found is written to FILE
         (default mismatch.bin)
+  compare sweep [--out FILE]
+        the same for every byte value in the heads of small streams and strips, every length of
+        them and every opening of 16 bits in a record
   compare bench [--only tile|coefficients]
         thread CPU time of one tile, the best of 9, the original in serial order and ours
   compare vectors records|refusals|tiles|strips [--seed S] > FILE
@@ -37,7 +40,15 @@ fn command(words: &[String]) -> Result<ExitCode, String> {
     }
     let (name, rest) = words.split_first().ok_or("no command")?;
     match name.as_str() {
-        "run" => run_cases(&Options::parse(rest, &["--seed", "--count", "--out"])?),
+        "run" => {
+            let options = Options::parse(rest, &["--seed", "--count", "--out"])?;
+            let (seed, count) = (options.number("--seed", 1)?, options.number("--count", 10_000)?);
+            tell(run::run(&Ours, seed, count as usize), &options)
+        }
+        "sweep" => {
+            let options = Options::parse(rest, &["--out"])?;
+            tell(run::check_all(&Ours, sweep::cases()), &options)
+        }
         "bench" => run_bench(&Options::parse(rest, &["--only"])?),
         "vectors" => {
             let (kind, rest) = rest.split_first().ok_or("vectors of which kind?")?;
@@ -77,9 +88,8 @@ impl<'a> Options<'a> {
     }
 }
 
-fn run_cases(options: &Options) -> Result<ExitCode, String> {
-    let (seed, count) = (options.number("--seed", 1)?, options.number("--count", 10_000)?);
-    let (tally, failing) = run::run(&Ours, seed, count as usize);
+/// Prints the table and writes the failing case, if there is one.
+fn tell((tally, failing): run::Outcome, options: &Options) -> Result<ExitCode, String> {
     tally.print();
     let Some((case, what)) = failing else {
         return Ok(ExitCode::SUCCESS);

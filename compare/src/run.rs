@@ -75,13 +75,20 @@ fn refusal_name(number: u64) -> &'static str {
     }
 }
 
-/// Runs `count` cases; the first that fails is made smaller and handed back with what went wrong.
-pub fn run(decoder: &impl Decoder, seed: u64, count: usize) -> (Tally, Option<(Case, String)>) {
+/// Runs `count` random cases.
+pub fn run(decoder: &impl Decoder, seed: u64, count: usize) -> Outcome {
     let mut seeds = Rng::new(seed);
+    check_all(decoder, (0..count).map(|_| draw_case(&mut Rng::new(seeds.next()))))
+}
+
+/// The table of a run, and the smallest failing case with what went wrong in it.
+pub type Outcome = (Tally, Option<(Case, String)>);
+
+/// Checks all cases; the first that fails is made smaller.
+pub fn check_all(decoder: &impl Decoder, cases: impl Iterator<Item = Case>) -> Outcome {
     let mut tally = Tally::default();
     let mut failing: Option<Case> = None;
-    for _ in 0..count {
-        let case = draw_case(&mut Rng::new(seeds.next()));
+    for case in cases {
         tally.cases += 1;
         match check(decoder, &case) {
             Ok(seen) => tally.count(seen),
