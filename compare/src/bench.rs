@@ -71,7 +71,7 @@ impl Times {
     }
 
     fn print(self) {
-        print!("{:>10.2}{:>10.2}{:>8.2}", self.original, self.ours, self.original / self.ours);
+        print!("{:>12.2}{:>9.2}{:>8.2}", self.original, self.ours, self.original / self.ours);
     }
 }
 
@@ -138,9 +138,9 @@ pub fn run(decoder: &impl Decoder, only: Option<Part>) {
 fn print_head(only: Option<Part>) {
     println!("thread CPU time in ms, best of {ROUNDS}; ratio is the original's time over ours");
     print!("{:<14}{:>9}{:>8}", "size", "selectors", "bits");
-    for (part, name) in [(Part::Tile, "tile"), (Part::Coefficients, "coef.")] {
+    for (part, name) in [(Part::Tile, "tile: Rust"), (Part::Coefficients, "coef.: Rust")] {
         if only.is_none_or(|o| o == part) {
-            print!("{:>10}{:>10}{:>8}", name, "ours", "ratio");
+            print!("{name:>12}{:>9}{:>8}", "ours", "ratio");
         }
     }
     println!();

@@ -78,7 +78,7 @@ fn refusal_name(number: u64) -> &'static str {
 /// Runs `count` random cases.
 pub fn run(decoder: &impl Decoder, seed: u64, count: usize) -> Outcome {
     let mut seeds = Rng::new(seed);
-    check_all(decoder, (0..count).map(|_| draw_case(&mut Rng::new(seeds.next()))))
+    check_all(decoder, (0..count).map(|_| draw_case(&mut Rng::new(seeds.word()))))
 }
 
 /// The table of a run, and the smallest failing case with what went wrong in it.

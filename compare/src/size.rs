@@ -22,7 +22,7 @@ impl Size {
     }
 
     pub fn guarded(self) -> bool {
-        self.height() % 16 != 0
+        !self.height().is_multiple_of(16)
     }
 
     /// Rows R of each plane.

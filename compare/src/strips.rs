@@ -48,7 +48,7 @@ fn draw_entry(rng: &mut Rng, frame: (usize, usize), free: usize) -> Entry {
     let named = |rng: &mut Rng, side: usize| if rng.one_in(2) { 0 } else { side as u32 };
     let words = [
         if start == STREAM && rng.one_in(2) { 0 } else { start as u32 },
-        rng.next() as u32,
+        rng.word() as u32,
         rng.pick(&[0, x / 2, x]) as u32,
         rng.pick(&[0, y / 2, y]) as u32,
         named(rng, size.width),
