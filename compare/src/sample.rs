@@ -67,7 +67,7 @@ mod tests {
 
     /// Rows at the top and at the bottom whose numbers may differ from the picture, as the format
     /// cannot hold every number there.
-    const EDGE: usize = 24;
+    const EDGE: usize = 8;
 
     fn difference(rows: &[Vec<i32>], decoded: &[i32]) -> i32 {
         let pairs = rows.iter().flatten().zip(decoded);
@@ -79,7 +79,7 @@ mod tests {
         let (last, columns) = (meant.len() - EDGE, meant[0].len());
         assert_eq!(meant.len() * columns, found.len());
         assert_eq!(difference(&meant[EDGE..last], &found[EDGE * columns..]), 0);
-        assert!(difference(meant, found) <= 4);
+        assert!(difference(meant, found) <= 2);
     }
 
     #[test]

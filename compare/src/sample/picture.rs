@@ -107,7 +107,7 @@ fn from_bolt(x: f64, y: f64) -> f64 {
 /// The bolt pocket: a dark hole with a lit rim below and a shaded one above, the bolt's head in it.
 fn pocket(plate: f64, x: f64, y: f64) -> f64 {
     let distance = from_bolt(x, y);
-    let light = 500.0 * (y - 355.0) / distance.max(1.0);
+    let light = 500.0 * (y - 355.0) / distance.max(50.0);
     let rim = plate + light * (1.0 - ramp(distance - 64.0, 3.0));
     let hole = mix(600.0, rim, ramp(distance - 52.0, 3.0));
     mix(1700.0 - 2.0 * light, hole, ramp(distance - 24.0, 3.0))
