@@ -25,7 +25,7 @@ impl Lengths {
     fn of_size(width: usize, half_height: usize) -> Lengths {
         let height = 2 * half_height;
         let n = height.div_ceil(16);
-        let rows = if height % 16 == 0 { 8 * n } else { 8 * n - 4 };
+        let rows = if height.is_multiple_of(16) { 8 * n } else { 8 * n - 4 };
         let half_plane = rows * (width / 2);
         Lengths { green: rows * width, red: half_plane, blue: half_plane, work: 16 * (n + 1) * width }
     }
