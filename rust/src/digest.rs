@@ -6,6 +6,9 @@ use crate::DecodedTile;
 /// The first bytes of what is digested; another definition would take another number.
 const LABEL: &[u8] = b"ARW6 planes 1\n";
 
+/// Numbers that are turned into bytes at a time.
+const PART: usize = 4096;
+
 impl DecodedTile {
     /// The SHA-256 of the coded size and the three planes, in the order of docs/DIGEST.md.
     pub fn digest(&self) -> [u8; 32] {
@@ -15,7 +18,10 @@ impl DecodedTile {
             hash.update(&(side as u32).to_le_bytes());
         }
         for plane in [&self.full_green, &self.red, &self.blue] {
-            plane.data.iter().for_each(|number| hash.update(&number.to_le_bytes()));
+            for part in plane.data.chunks(PART) {
+                let bytes: Vec<u8> = part.iter().flat_map(|number| number.to_le_bytes()).collect();
+                hash.update(&bytes);
+            }
         }
         hash.finish()
     }
