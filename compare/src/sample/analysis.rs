@@ -92,10 +92,8 @@ fn place_level1(hl: &Rows, lh: &Rows, hh: &Rows) -> [Rows; 3] {
 fn place(hl: &Rows, lh: &Rows, hh: &Rows, e: usize, odd: bool) -> [Rows; 3] {
     let h = hl.len();
     let mut s = empty_subbands(h + 2 * e, hl[0].len());
-    for y in e..h - e {
-        s[0][y + e] = hl[y].clone();
-        s[1][y + e] = lh[y].clone();
-        s[2][y + e] = hh[y].clone();
+    for (subband, band) in s.iter_mut().zip([hl, lh, hh]) {
+        subband[2 * e..h].clone_from_slice(&band[e..h - e]);
     }
     for k in 0..e {
         for (y, first) in [(k, k), (h - e + k, h + k)] {
