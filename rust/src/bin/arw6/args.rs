@@ -34,8 +34,8 @@ struct Words {
     help: bool,
 }
 
-pub fn parse(words: impl Iterator<Item = OsString>) -> Result<Request, String> {
-    let mut words = words;
+/// Takes the words apart, or says what is wrong with them.
+pub fn parse(mut words: impl Iterator<Item = OsString>) -> Result<Request, String> {
     let first = words.next().ok_or("no command")?;
     match first.to_str() {
         Some("tiles") => request(Words::parse(words)?, help::TILES, |w| w.without_folder(Command::Tiles)),
@@ -47,6 +47,7 @@ pub fn parse(words: impl Iterator<Item = OsString>) -> Result<Request, String> {
     }
 }
 
+/// The help of a command, or the job that its words describe.
 fn request(
     words: Words,
     help: &str,
@@ -68,7 +69,7 @@ impl Words {
         while let Some(word) = rest.next() {
             match word.to_str() {
                 Some("--help" | "-h") => words.help = true,
-                Some("--frame") => words.frame = Some(side_by_side(&rest.next().unwrap_or_default())?),
+                Some("--frame") => words.frame = Some(frame_size(&rest.next().unwrap_or_default())?),
                 Some("--out") => words.folder = Some(rest.next().ok_or("--out lacks a folder")?.into()),
                 Some("--") => words.files.extend(rest.by_ref().map(PathBuf::from)),
                 Some(option) if option.starts_with('-') => return Err(format!("unknown option {option}")),
@@ -97,7 +98,7 @@ impl Words {
 }
 
 /// Width and height of the form `640x480`.
-fn side_by_side(word: &OsStr) -> Result<(usize, usize), String> {
+fn frame_size(word: &OsStr) -> Result<(usize, usize), String> {
     let sides = word.to_str().and_then(|word| word.split_once('x'));
     let sides = sides.and_then(|(w, h)| Some((w.parse().ok()?, h.parse().ok()?)));
     sides.ok_or("--frame wants a width and a height, as in 640x480".to_string())

@@ -10,7 +10,8 @@ arw6: tiles and planes of Sony ARW6 frames, by the proved decoder
   arw6 --version
 
 FILE is a frame file: frame width and height, 32-bit little-endian each, then the strip.
-With --frame WxH it is the strip alone, of a frame W wide and H high.
+With --frame WxH it is the strip alone, of a frame W wide and H high. Words after -- are
+files, whatever they begin with.
 
 Status: 0 all good; 1 some file refused or unreadable, or output that could not be
 written; 2 bad usage. Each error is one line on standard error.
