@@ -1,5 +1,7 @@
 //! The commands of the comparison.
 
+mod sample;
+
 use compare::ours::Ours;
 use compare::{bench, run, sweep, vectors};
 use std::process::ExitCode;
@@ -18,6 +20,8 @@ compare: the proved ARW6 tile decoder against the original in Rust
         thread CPU time of one tile, the best of 9, the original in serial order and ours
   compare vectors records|refusals|tiles|strips [--seed S] > FILE
         fixed cases with the original's answers, in the format that README.md describes
+  compare sample > FILE
+        the sample frame file, a segment joint in two tiles
   compare --help
         this text
 ";
@@ -53,6 +57,10 @@ fn command(words: &[String]) -> Result<ExitCode, String> {
         "vectors" => {
             let (kind, rest) = rest.split_first().ok_or("vectors of which kind?")?;
             write_vectors(kind, &Options::parse(rest, &["--seed"])?)
+        }
+        "sample" => {
+            Options::parse(rest, &[])?;
+            write_sample()
         }
         _ => Err(format!("unknown command {name}")),
     }
@@ -113,5 +121,10 @@ fn write_vectors(kind: &str, options: &Options) -> Result<ExitCode, String> {
     let seed = options.number("--seed", 1)?;
     let bytes = vectors::make(kind, seed).ok_or(format!("no vectors of kind {kind}"))?;
     std::io::Write::write_all(&mut std::io::stdout(), &bytes).map_err(|e| e.to_string())?;
+    Ok(ExitCode::SUCCESS)
+}
+
+fn write_sample() -> Result<ExitCode, String> {
+    std::io::Write::write_all(&mut std::io::stdout(), &sample::frame_file()).map_err(|e| e.to_string())?;
     Ok(ExitCode::SUCCESS)
 }
