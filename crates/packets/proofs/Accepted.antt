@@ -12,10 +12,9 @@ use borrow.Author.Tests.{ltb-true, ltb-false, eqb-true, eqb-false, not-true, not
 use Rattle.format.proofs.BitLaws.{bits-lt}
 use Rattle.format.specs.Sizes.{Colour, green, red, blue, index, Level, l1, l2, l3, Group, base, detail, final, number, stripes, guarded, planeRowsOf, planeColumns, workLength}
 use Rattle.format.specs.Strip.{width, halfHeight, codedHeight, magic, sides, marks, validHeader}
-use Rattle.format.specs.Packets.{packetStart, packetLength, hasEntry, packetOf, kind, blocks, sizeOf, recordBit, recordLength, payloadAt}
+use Rattle.format.specs.Packets.{packetStart, packetLength, hasEntry, packetOf, padding, tag, zero4, zero6, kind, blocks, marker, zero8, sizeOf, recordBit, recordLength, payloadAt}
 use Rattle.format.specs.Refusals.{_▷_, on, each, lentRefusal, directoryRefusal, recordRefusal, packetRefusal, isDetail, wrongCount, tileRefusal, entryCheck, planeRefusal, packetsRefusal, refusal}
-use Rattle.packets.specs.Answers.{marksRefusal, countsRefusal, sizeRefusal}
-use Rattle.packets.proofs.Laws.{both-none, each-zero, not-on, on-not, apart, and-true, or-false, packet-parts, packet-long, size-is, inside, valid-long}
+use Rattle.packets.proofs.Laws.{both-none, each-zero, not-on, on-not, apart, and-true, or-false, inside, valid-long}
 
 -- ---- statements
 
@@ -101,18 +100,24 @@ tile-parts k count g H n none =
     let d = both-none (on (ltb (n / 16 + 1) count) 22) _ (c .1) in
     (not-on _ 18 (a .0), ltb-false _ _ (not-on _ 19 (b .0)), not-on _ 20 (c .0), not-on _ 22 (d .1))
 
-kind-known : (p : List ℕ) → countsRefusal p ≡ 0 → (eqb (kind p) 1 || eqb (kind p) 3) ≡ true
-unfolding countsRefusal
-kind-known p none = on-not (eqb (kind p) 1 || eqb (kind p) 3) 13 (both-none (on (not (eqb (kind p) 1 || eqb (kind p) 3)) 14) _ none .0)
-
 -- the checks of a packet by itself, apart
 packet-facts : (p : List ℕ) → packetRefusal p ≡ 0
-    → ((eqb (kind p) 1 || eqb (kind p) 3) ≡ true) × (sizeOf p ≡ length p) × ((i : ℕ) → i < blocks p → recordRefusal p i ≡ 0)
+    → (16 ≤ length p) × ((eqb (kind p) 1 || eqb (kind p) 3) ≡ true) × (sizeOf p ≡ length p) × ((i : ℕ) → i < blocks p → recordRefusal p i ≡ 0)
+unfolding packetRefusal
 packet-facts p none =
-    let a = both-none (marksRefusal p) _ (sym (packet-parts p (packet-long p none)) ∙ none) in
-    let b = both-none (countsRefusal p) _ (a .1) in
-    let c = both-none (sizeRefusal p) _ (b .1) in
-    (kind-known p (b .0), size-is p (c .0), λ i. each-zero (recordRefusal p) i (blocks p) (c .1))
+    let a = both-none (on (ltb (length p) 16) 10) _ none in
+    let b = both-none (on (not (eqb (padding p) 0)) 12) _ (a .1) in
+    let c = both-none (on (not (eqb (tag p) 4) || not (eqb (zero4 p) 0) || not (eqb (zero6 p) 0)) 13) _ (b .1) in
+    let d = both-none (on (not (eqb (kind p) 1 || eqb (kind p) 3)) 14) _ (c .1) in
+    let e = both-none (on (eqb (blocks p) 0 || ltb 30000 (blocks p)) 15) _ (d .1) in
+    let f = both-none (on (not (eqb (marker p) 16) || not (eqb (zero8 p) 0)) 16) _ (e .1) in
+    let g = both-none (on (not (eqb (sizeOf p) (length p))) 17) _ (f .1) in
+    (
+      ltb-false _ _ (not-on _ 9 (a .0)),
+      on-not (eqb (kind p) 1 || eqb (kind p) 3) 13 (d .0),
+      eqb-true _ _ (on-not (eqb (sizeOf p) (length p)) 16 (g .0)),
+      λ i. each-zero (recordRefusal p) i (blocks p) (g .1),
+    )
 
 record-parts : (p : List ℕ) (i : ℕ) → recordRefusal p i ≡ 0 → (recordBit p (i + 1) ≤ length p * 8) × (payloadAt p i + recordLength p i ≤ length p)
 unfolding recordRefusal
@@ -155,12 +160,12 @@ module _ (s : List ℕ) (g : Group) (k : ℕ) (none : entryCheck s g k ≡ 0) wh
         entry = entry-parts .0;
         within = lies;
         bytes = packet-bytes s (number g) k lies;
-        long = packet-long p (entry-parts .1);
-        size = of .1;
-        components = kind-in (kind p) (isDetail g) (picked (eqb (kind p) 1) (eqb (kind p) 3) (isDetail g) (of .0) (tile .0) (tile .3));
+        long = of .0;
+        size = of .2;
+        components = kind-in (kind p) (isDetail g) (picked (eqb (kind p) 1) (eqb (kind p) 3) (isDetail g) (of .1) (tile .0) (tile .3));
         count = count-in (codedHeight s) (blocks p) (tile .2);
-        headers = λ i less. record-parts p i (of .2 i less) .0;
-        payloads = λ i less. record-parts p i (of .2 i less) .1;
+        headers = λ i less. record-parts p i (of .3 i less) .0;
+        payloads = λ i less. record-parts p i (of .3 i less) .1;
       }
 
 -- ---- the stream

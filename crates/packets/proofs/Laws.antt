@@ -13,9 +13,9 @@ use Rattle.format.proofs.BitLaws.{le-or-lt, bits-lt}
 use Rattle.format.specs.Bits.{bitsAt}
 use Rattle.format.specs.Sizes.{number, index}
 use Rattle.format.specs.Strip.{magic, sides, marks, validHeader, width, groupSize, codedHeight}
-use Rattle.format.specs.Packets.{sum, entryCount, hasEntry, packetOf, control, marker, zero8, sizeOf, kind, blocks, entryLength, blockSize, blockAt, groupStart, packetStart, packetLength, recordBit, recordLength, payloadAt}
+use Rattle.format.specs.Packets.{sum, entryCount, hasEntry, packetOf, control, kind, blocks, entryLength, blockSize, blockAt, groupStart, packetStart, packetLength, recordBit, recordLength, payloadAt}
 use Rattle.format.specs.Refusals.{_▷_, on, each, isDetail, entryRefusal, groupRefusal, directoryRefusal, tileRefusal, entryCheck, recordRefusal, packetRefusal, refusal}
-use Rattle.packets.specs.Answers.{groupOf, colourOf, entered, entryOf, missing, checkedOf, marksRefusal, countsRefusal, sizeRefusal}
+use Rattle.packets.specs.Answers.{groupOf, colourOf, entered, entryOf, missing, checkedOf}
 use Rattle.packets.specs.declared.directory.DirEntry.{DirEntry}
 use Rattle.packets.specs.declared.directory.DirEntry.the-variants.{At, Missing}
 
@@ -26,10 +26,6 @@ one n = omega arith
 pub stops : (a b : ℕ) → (a ≡ 0 → ⊥) → (a ▷ b) ≡ a
 stops zero b h = absurd (h refl)
 stops (suc a) b h = refl
-
-pub in-turn : (a b c : ℕ) → ((a ▷ b) ▷ c) ≡ (a ▷ (b ▷ c))
-in-turn zero b c = refl
-in-turn (suc a) b c = refl
 
 module _ (f : ℕ → ℕ) where
   pub each-none : each f 0 ≡ 0
@@ -173,15 +169,6 @@ module _ (s : List ℕ) where
   group-on g = rw (sum-on (groupSize s) g) (omega arith)
 
 module _ (p : List ℕ) where
-  pub short : length p < 16 → 10 ≡ packetRefusal p
-  unfolding packetRefusal
-  short h = simp (lt-ltb _ _ h)
-
-  -- the checks of a packet, its header's in three parts
-  pub packet-parts : 16 ≤ length p → packetRefusal p ≡ (marksRefusal p ▷ countsRefusal p ▷ sizeRefusal p ▷ each (recordRefusal p) (blocks p))
-  unfolding packetRefusal marksRefusal countsRefusal sizeRefusal
-  packet-parts h = rw (in-turn, in-turn, in-turn) (simp (le-ltb _ _ h))
-
   module _ (i : ℕ) where
     pub eleven : length p * 8 < recordBit p (i + 1) → recordRefusal p i ≡ 11
     unfolding recordRefusal
@@ -291,11 +278,3 @@ refusal-long s greenN redN blueN workN h = valid-long s (on-not (validHeader s) 
 pub packet-long : (p : List ℕ) → packetRefusal p ≡ 0 → 16 ≤ length p
 unfolding packetRefusal
 packet-long p h = ltb-false _ _ (not-on _ 9 (both-none (on (ltb (length p) 16) 10) _ h .0))
-
-pub size-is : (p : List ℕ) → sizeRefusal p ≡ 0 → sizeOf p ≡ length p
-unfolding sizeRefusal
-size-is p h = eqb-true _ _ (on-not (eqb (sizeOf p) (length p)) 16 (both-none (on (not (eqb (marker p) 16) || not (eqb (zero8 p) 0)) 16) _ h .1))
-
-pub size-small : (p : List ℕ) → sizeRefusal p ≡ 0 → length p < 2 ^ 29
-unfolding sizeOf
-size-small p h = omega (arith, size-is p h, bits-lt p 0 16, bits-lt p 16 24)

@@ -22,15 +22,15 @@ pub struct Checked {
     pub height: usize,
 }
 
-// The part of the stream that is packet k of group g.
-pub fn packet(stream: &[u8], g: usize, k: usize) -> &[u8]
-    requires { ⌜ (128 ≤ length (now stream)) × (g < 5) × (k < 16) × (packetStart (now stream) g k + packetLength (now stream) g k ≤ length (now stream)) ⌝ }
-    ensures { λ r. ⌜ now r ≡ packetOf (now (stream .entry)) g k ⌝ }
+// The part of the stream that is packet index of group group.
+pub fn packet(stream: &[u8], group: usize, index: usize) -> &[u8]
+    requires { ⌜ (128 ≤ length (now stream)) × (group < 5) × (index < 16) × (packetStart (now stream) group index + packetLength (now stream) group index ≤ length (now stream)) ⌝ }
+    ensures { λ r. ⌜ now r ≡ packetOf (now (stream .entry)) group index ⌝ }
 {
     part(
         stream,
-        directory::packet_start(stream, g, k),
-        directory::packet_length(stream, g, k),
+        directory::packet_start(stream, group, index),
+        directory::packet_length(stream, group, index),
     )
 }
 
@@ -51,33 +51,33 @@ fn coded_height(stream: &[u8]) -> usize
 }
 
 // Groups 1 to 3.
-fn is_detail(g: usize) -> bool
-    ensures { λ r. ⌜ r ≡ isDetail (groupOf g) ⌝ }
+fn is_detail(group: usize) -> bool
+    ensures { λ r. ⌜ r ≡ isDetail (groupOf group) ⌝ }
 {
-    if g < 1 {
+    if group < 1 {
         return false;
     }
-    g <= 3
+    group <= 3
 }
 
 // Kind 3 in group 0 or 4.
-fn three_in_one(kind: usize, g: usize) -> bool
-    ensures { λ r. ⌜ r ≡ (eqb kind 3 && not (isDetail (groupOf g))) ⌝ }
+fn three_in_one(kind: usize, group: usize) -> bool
+    ensures { λ r. ⌜ r ≡ (eqb kind 3 && not (isDetail (groupOf group))) ⌝ }
 {
     if kind != 3 {
         return false;
     }
-    !is_detail(g)
+    !is_detail(group)
 }
 
 // Kind 1 in groups 1 to 3.
-fn one_in_three(kind: usize, g: usize) -> bool
-    ensures { λ r. ⌜ r ≡ (eqb kind 1 && isDetail (groupOf g)) ⌝ }
+fn one_in_three(kind: usize, group: usize) -> bool
+    ensures { λ r. ⌜ r ≡ (eqb kind 1 && isDetail (groupOf group)) ⌝ }
 {
     if kind != 1 {
         return false;
     }
-    is_detail(g)
+    is_detail(group)
 }
 
 // Neither n + 1 records nor, guarded, one fewer.
@@ -97,12 +97,12 @@ fn wrong_count(height: usize, count: usize) -> bool
     count != n
 }
 
-// A packet in its tile, of coded height H, in group g, of a stream of n bytes.
-fn check_in_tile(kind: usize, count: usize, g: usize, height: usize, n: usize) -> u32
+// A packet in its tile, of coded height H, in group group, of a stream of n bytes.
+fn check_in_tile(kind: usize, count: usize, group: usize, height: usize, n: usize) -> u32
     requires { ⌜ height < 2 ^ 17 ⌝ }
-    ensures { λ r. ⌜ r ≡ tileRefusal kind count (groupOf g) height n ⌝ }
+    ensures { λ r. ⌜ r ≡ tileRefusal kind count (groupOf group) height n ⌝ }
 {
-    if three_in_one(kind, g) {
+    if three_in_one(kind, group) {
         return 19;
     }
     if 32767 < height {
@@ -114,18 +114,18 @@ fn check_in_tile(kind: usize, count: usize, g: usize, height: usize, n: usize) -
     if n / 16 + 1 < count {
         return 22;
     }
-    if one_in_three(kind, g) {
+    if one_in_three(kind, group) {
         return 23;
     }
     0
 }
 
-// Entry k of group g.
-fn check_entry(stream: &[u8], g: usize, k: usize) -> u32
-    requires { ⌜ (128 ≤ length (now stream)) × (g < 5) × (k < 16) × (directoryRefusal (now stream) ≡ 0) ⌝ }
-    ensures { λ r. ⌜ r ≡ entryCheck (now (stream .entry)) (groupOf g) k ⌝ }
+// Entry index of group group.
+fn check_entry(stream: &[u8], group: usize, index: usize) -> u32
+    requires { ⌜ (128 ≤ length (now stream)) × (group < 5) × (index < 16) × (directoryRefusal (now stream) ≡ 0) ⌝ }
+    ensures { λ r. ⌜ r ≡ entryCheck (now (stream .entry)) (groupOf group) index ⌝ }
 {
-    let directory::DirEntry::At(start, n) = directory::find_entry(stream, g, k) else {
+    let directory::DirEntry::At(start, n) = directory::find_entry(stream, group, index) else {
         return 9;
     };
     let found = part(stream, start, n);
@@ -136,7 +136,7 @@ fn check_entry(stream: &[u8], g: usize, k: usize) -> u32
     check_in_tile(
         field(found, 48, 2),
         field(found, 56, 16),
-        g,
+        group,
         coded_height(stream),
         stream.len(),
     )

@@ -29,14 +29,14 @@ returns-5 : tie.Need-returns-5
 unfolding groupRefusal
 returns-5 c =
     let s = c .before .before .before .before .before .before .before .before .before .before .before .before .args .stream .now in
-    let long : c .before .entries .result ≡ sum (packetLength s (c .before .before .before .before .before .before .before .before .before .before .before .before .args .g)) (c .before .before .before .before .before .before .before .before .entry-count .result) = c .before .entries .ensures .0 ∙ ap (λ (at : ℕ). sum (entryLength s at) (c .before .before .before .before .before .before .before .before .entry-count .result)) (c .before .before .before .before .before .before .before .before .before .before .block-at .ensures .0) ∙ lengths-are s (c .before .before .before .before .before .before .before .before .before .before .before .before .args .g) (c .before .before .before .before .before .before .before .before .entry-count .result) in
+    let long : c .before .entries .result ≡ sum (packetLength s (c .before .before .before .before .before .before .before .before .before .before .before .before .args .group)) (c .before .before .before .before .before .before .before .before .entry-count .result) = c .before .entries .ensures .0 ∙ ap (λ (at : ℕ). sum (entryLength s at) (c .before .before .before .before .before .before .before .before .entry-count .result)) (c .before .before .before .before .before .before .before .before .before .before .block-at .ensures .0) ∙ lengths-are s (c .before .before .before .before .before .before .before .before .before .before .before .before .args .group) (c .before .before .before .before .before .before .before .before .entry-count .result) in
     simp (← (c .before .before .before .before .before .before .before .before .before .before .block-at .ensures .0), le-ltb _ _ (c .before .before .before .before .before .before .before .before .before .if1 .left), ← (c .before .before .before .before .before .before .before .before .entry-count .ensures .0), le-ltb _ _ (c .before .before .before .before .before .before .before .if2 .left), ← (c .before .before .before .before .before .before .block-size .ensures .0), le-ltb _ _ (c .before .before .before .before .before .if3 .left), ← (c .before .before .before .before .check-entries .ensures), c .before .before .before .if4 .left, ← (c .before .before .group-size .ensures .0), ← long, lt-ltb _ _ (c .if5 .taken))
 
 returns-6 : tie.Need-returns-6
 unfolding groupRefusal
 returns-6 c =
     let s = c .before .before .before .before .before .before .before .before .before .before .before .before .args .stream .now in
-    let long : c .before .entries .result ≡ sum (packetLength s (c .before .before .before .before .before .before .before .before .before .before .before .before .args .g)) (c .before .before .before .before .before .before .before .before .entry-count .result) = c .before .entries .ensures .0 ∙ ap (λ (at : ℕ). sum (entryLength s at) (c .before .before .before .before .before .before .before .before .entry-count .result)) (c .before .before .before .before .before .before .before .before .before .before .block-at .ensures .0) ∙ lengths-are s (c .before .before .before .before .before .before .before .before .before .before .before .before .args .g) (c .before .before .before .before .before .before .before .before .entry-count .result) in
+    let long : c .before .entries .result ≡ sum (packetLength s (c .before .before .before .before .before .before .before .before .before .before .before .before .args .group)) (c .before .before .before .before .before .before .before .before .entry-count .result) = c .before .entries .ensures .0 ∙ ap (λ (at : ℕ). sum (entryLength s at) (c .before .before .before .before .before .before .before .before .entry-count .result)) (c .before .before .before .before .before .before .before .before .before .before .block-at .ensures .0) ∙ lengths-are s (c .before .before .before .before .before .before .before .before .before .before .before .before .args .group) (c .before .before .before .before .before .before .before .before .entry-count .result) in
     simp (← (c .before .before .before .before .before .before .before .before .before .before .block-at .ensures .0), le-ltb _ _ (c .before .before .before .before .before .before .before .before .before .if1 .left), ← (c .before .before .before .before .before .before .before .before .entry-count .ensures .0), le-ltb _ _ (c .before .before .before .before .before .before .before .if2 .left), ← (c .before .before .before .before .before .before .block-size .ensures .0), le-ltb _ _ (c .before .before .before .before .before .if3 .left), ← (c .before .before .before .before .check-entries .ensures), c .before .before .before .if4 .left, ← (c .before .before .group-size .ensures .0), ← long, le-ltb _ _ (c .if5 .left))
 
 pub check-group-spec : {M : Type 1} → statement M

@@ -20,7 +20,7 @@ loop-again : tie.Need-loop-again Inv-loop μ-loop
 loop-again c = (simp (c .before .before .loop .inv .0, c .entry-length .ensures .0, sum-on (entryLength (c .before .before .before .before .args .stream .now) (c .before .before .before .before .args .at)) (c .before .before .loop .i)), omega arith, omega arith)
 
 returns : tie.Need-returns Inv-loop μ-loop
-returns c = let same : c .before .loop .i ≡ c .before .before .before .args .k = omega arith in (rw (sym same) (c .before .loop .inv .0), omega arith)
+returns c = let same : c .before .loop .i ≡ c .before .before .before .args .index = omega arith in (rw (sym same) (c .before .loop .inv .0), omega arith)
 
 pub entries-spec : {M : Type 1} → statement M
 entries-spec =
