@@ -111,8 +111,7 @@ packet-facts p none =
     let d = both-none (on (not (eqb (kind p) 1 || eqb (kind p) 3)) 14) _ (c .1) in
     let e = both-none (on (eqb (blocks p) 0 || ltb 30000 (blocks p)) 15) _ (d .1) in
     let f = both-none (on (not (eqb (marker p) 16) || not (eqb (zero8 p) 0)) 16) _ (e .1) in
-    let g = both-none (on (not (eqb (sizeOf p) (length p))) 17) _ (f .1) in
-    (
+    let g = both-none (on (not (eqb (sizeOf p) (length p))) 17) _ (f .1) in (
       ltb-false _ _ (not-on _ 9 (a .0)),
       on-not (eqb (kind p) 1 || eqb (kind p) 3) 13 (d .0),
       eqb-true _ _ (on-not (eqb (sizeOf p) (length p)) 16 (g .0)),
@@ -214,8 +213,7 @@ lent-parts w H greenN redN blueN workN none =
     let a = both-none (on (ltb 134217728 (planeRowsOf H * w)) 3) _ none in
     let b = or-false _ (ltb workN (workLength w H)) (not-on _ 3 (a .1)) in
     let c = or-false _ (ltb blueN (planeRowsOf H * planeColumns w blue)) (b .0) in
-    let d = or-false (ltb greenN (planeRowsOf H * planeColumns w green)) (ltb redN (planeRowsOf H * planeColumns w red)) (c .0) in
-    (
+    let d = or-false (ltb greenN (planeRowsOf H * planeColumns w green)) (ltb redN (planeRowsOf H * planeColumns w red)) (c .0) in (
       ltb-false _ _ (not-on _ 2 (a .0)),
       ltb-false _ _ (d .0),
       ltb-false _ _ (d .1),

@@ -3,13 +3,13 @@ use mathlib.Core.Path.{_≡_, refl, sym, ap, _∙_}
 use mathlib.Core.Logic.{⊎-elim}
 use mathlib.Core.List.{List}
 use mathlib.Core.Bool.{Bool, true, false, not, _&&_, _||_}
-use Prim.Native.Nat.{ℕ, zero, suc, _+_, _*_, _^_, _≤_, _<_}
+use Prim.Native.Nat.{ℕ, zero, suc, _+_, _*_, _≤_, _<_}
 use native.Mathlib.Omega.{arith}
 use native.Mathlib.Nat.{mul-le-mul, add-zero}
 use lib.ListN.{length, take, drop}
 use lib.Dec.{leb, ltb, eqb}
 use borrow.Author.Tests.{lt-ltb, le-ltb, lt-leb, ltb-true, ltb-false, leb-true, eqb-true, not-false}
-use Rattle.format.proofs.BitLaws.{le-or-lt, bits-lt}
+use Rattle.format.proofs.BitLaws.{le-or-lt}
 use Rattle.format.specs.Bits.{bitsAt}
 use Rattle.format.specs.Sizes.{number, index}
 use Rattle.format.specs.Strip.{magic, sides, marks, validHeader, width, groupSize, codedHeight}
@@ -142,14 +142,18 @@ module _ (s : List ℕ) (g : ℕ) where
   unfolding packetStart packetLength
   start-on k = rw (sum-on (entryLength s (blockAt s g)) k) (omega arith)
 
-  pub length-is : (k : ℕ) → entryLength s (blockAt s g) k ≡ packetLength s g k
-  unfolding packetLength
-  length-is k = refl
-
-  pub lengths-are : (k : ℕ) → sum (entryLength s (blockAt s g)) k ≡ sum (packetLength s g) k
+  lengths-are : (k : ℕ) → sum (entryLength s (blockAt s g)) k ≡ sum (packetLength s g) k
   unfolding sum packetLength
   lengths-are zero = refl
   lengths-are (suc k) = rw (lengths-are k) refl
+
+  -- a length, and the sum of some, read at the group's block
+  pub length-read : (at k n : ℕ) → at ≡ blockAt s g → n ≡ entryLength s at k → n ≡ packetLength s g k
+  unfolding packetLength
+  length-read at k n e is = is ∙ ap (λ (b : ℕ). entryLength s b k) e
+
+  pub lengths-read : (at k n : ℕ) → at ≡ blockAt s g → n ≡ sum (entryLength s at) k → n ≡ sum (packetLength s g) k
+  lengths-read at k n e is = is ∙ ap (λ (b : ℕ). sum (entryLength s b) k) e ∙ lengths-are k
 
 module _ (s : List ℕ) where
   pub block-none : blockAt s 0 ≡ 48
@@ -182,14 +186,14 @@ module _ (p : List ℕ) where
     unfolding recordRefusal
     record-good h k = simp (le-ltb _ _ h, le-ltb _ _ k)
 
-    -- a record's header by the packet's kind
-    pub bit-is : (k : ℕ) → k ≡ kind p → 128 + (16 + 4 * k) * i ≡ recordBit p i
+    -- where a record's header is, by the packet's kind, and the length that is read there
+    pub bit-read : (k b : ℕ) → k ≡ kind p → b ≡ 128 + (16 + 4 * k) * i → b ≡ recordBit p i
     unfolding recordBit
-    bit-is k e = rw e refl
+    bit-read k b e is = is ∙ rw e refl
 
-    pub length-at : (b : ℕ) → b ≡ recordBit p i → bitsAt p b 16 ≡ recordLength p i
+    pub record-read : (k b n : ℕ) → k ≡ kind p → b ≡ 128 + (16 + 4 * k) * i → n ≡ bitsAt p b 16 → n ≡ recordLength p i
     unfolding recordLength
-    length-at b e = rw e refl
+    record-read k b n e is read = read ∙ rw (bit-read k b e is) refl
 
     pub payload-on : payloadAt p (i + 1) ≡ payloadAt p i + recordLength p i
     unfolding payloadAt
@@ -270,6 +274,10 @@ checked-size s k e = rw e (refl, refl)
 pub valid-long : (s : List ℕ) → validHeader s ≡ true → 128 ≤ length s
 unfolding validHeader
 valid-long s h = leb-true _ _ (and-true _ (magic s) (and-true _ (sides s) (and-true _ (marks s) h .0) .0) .0)
+
+-- the same, of a test that was read
+pub header-long : (s : List ℕ) (b : Bool) → b ≡ validHeader s → not b ≡ false → 128 ≤ length s
+header-long s b e h = valid-long s (sym e ∙ not-false b h)
 
 pub refusal-long : (s : List ℕ) (greenN redN blueN workN : ℕ) → refusal s greenN redN blueN workN ≡ 0 → 128 ≤ length s
 unfolding refusal

@@ -8,6 +8,11 @@ ghost use Rattle.format.specs.Refusals.{each, entryRefusal, groupRefusal, direc
 ghost use Rattle.packets.specs.Answers.{entryOf};
 use words::field;
 
+// Where a stream's directory and its first packet start.
+const DIRECTORY: usize = 48;
+
+const HEADER: usize = 128;
+
 // Where an entry's packet starts in the stream, and its length.
 pub enum DirEntry {
     At(usize, usize),
@@ -43,7 +48,11 @@ fn length_place(index: usize) -> usize
     requires { ⌜ index < 16 ⌝ }
     ensures { λ r. ⌜ (r ≡ lengthPlace index) × (r < 64) ⌝ }
 {
-    if index < 5 { 1 + 3 * index } else { 17 + 3 * (index - 5) }
+    if index < 5 {
+        1 + 3 * index
+    } else {
+        17 + 3 * (index - 5)
+    }
 }
 
 // The length in bytes of entry index of the block at a byte.
@@ -59,7 +68,7 @@ fn block_at(stream: &[u8], group: usize) -> usize
     requires { ⌜ (128 ≤ length (now stream)) × (group < 5) ⌝ }
     ensures { λ r. ⌜ (r ≡ blockAt (now (stream .entry)) group) × (r < 2 ^ 31) ⌝ }
 {
-    let mut at = 48;
+    let mut at = DIRECTORY;
     let mut i = 0;
     while i < group {
         at += block_size(stream, at);
@@ -73,7 +82,7 @@ fn group_start(stream: &[u8], group: usize) -> usize
     requires { ⌜ (128 ≤ length (now stream)) × (group < 5) ⌝ }
     ensures { λ r. ⌜ (r ≡ groupStart (now (stream .entry)) group) × (r < 2 ^ 40) ⌝ }
 {
-    let mut start = 128;
+    let mut start = HEADER;
     let mut i = 0;
     while i < group {
         start += group_size(stream, i);
@@ -122,7 +131,10 @@ pub fn find_entry(stream: &[u8], group: usize, index: usize) -> DirEntry
     if count <= index {
         return DirEntry::Missing;
     }
-    DirEntry::At(packet_start(stream, group, index), packet_length(stream, group, index))
+    DirEntry::At(
+        packet_start(stream, group, index),
+        packet_length(stream, group, index),
+    )
 }
 
 // Each packet of group group lies within the stream.

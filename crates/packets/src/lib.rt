@@ -15,6 +15,9 @@ mod directory;
 mod header;
 mod records;
 
+// The most numbers that a plane has.
+const MAX_PLANE_SAMPLES: usize = 134_217_728;
+
 // The refusal of a stream, 0 for none; the coded size where there is none.
 pub struct Checked {
     pub refusal: u32,
@@ -201,7 +204,7 @@ fn check_lent(w: usize, height: usize, green: usize, red: usize, blue: usize, wo
 {
     let n = plane_rows(height);
     let full = n * w;
-    if 134217728 < full {
+    if MAX_PLANE_SAMPLES < full {
         return 3;
     }
     if green < full {

@@ -14,7 +14,10 @@ fn word(b: &[u8], at: usize) -> usize
     requires { ⌜ at + 4 ≤ length (now b) ⌝ }
     ensures { λ r. ⌜ r < 2 ^ 32 ⌝ }
 {
-    wide(b[at]) + 0x100 * wide(b[at + 1]) + 0x1_0000 * wide(b[at + 2]) + 0x100_0000 * wide(b[at + 3])
+    wide(b[at])
+        + 0x100 * wide(b[at + 1])
+        + 0x1_0000 * wide(b[at + 2])
+        + 0x100_0000 * wide(b[at + 3])
 }
 
 // Reads a stream of n bytes, and checks it for the lent lengths of the case; 99 where the stream is cut short.
@@ -25,7 +28,13 @@ fn number_of(head: &[u8], room: &mut [u8], n: usize) -> usize
     if got < n {
         return 99;
     }
-    let checked = packets::check(&room[0..n], word(head, 4), word(head, 8), word(head, 12), word(head, 16));
+    let checked = packets::check(
+        &room[0..n],
+        word(head, 4),
+        word(head, 8),
+        word(head, 12),
+        word(head, 16),
+    );
     checked.refusal as usize
 }
 

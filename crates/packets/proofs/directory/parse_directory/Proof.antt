@@ -20,8 +20,10 @@ loop-holds c = (each-none (groupRefusal (c .before .args .stream .now)), omega a
 returns : tie.Need-returns Inv-loop μ-loop
 unfolding directoryRefusal
 returns c =
-    let here : groupRefusal (c .before .before .before .before .before .args .stream .now) (c .before .before .before .loop .group) ≡ c .before .check-group .result = sym (c .before .check-group .ensures) in
-    sym (each-stop (groupRefusal (c .before .before .before .before .before .args .stream .now)) (c .before .before .before .loop .group) 5 (c .before .before .before .loop .inv .0) (λ e. c .if1 .taken (sym here ∙ e)) (omega arith) ∙ here)
+    let s = c .before .before .before .before .before .args .stream .now in
+    let l = c .before .before .before .loop in
+    let here : groupRefusal s (l .group) ≡ c .before .check-group .result = sym (c .before .check-group .ensures) in
+    sym (each-stop (groupRefusal s) (l .group) 5 (l .inv .0) (λ e. c .if1 .taken (sym here ∙ e)) (omega arith) ∙ here)
 
 loop-again : tie.Need-loop-again Inv-loop μ-loop
 unfolding directoryRefusal
