@@ -14,7 +14,8 @@ use Rattle.format.specs.Sizes.{Colour, green, red, blue, index, Level, l1, l2, 
 use Rattle.format.specs.Strip.{width, halfHeight, codedHeight, magic, sides, marks, validHeader}
 use Rattle.format.specs.Packets.{packetStart, packetLength, hasEntry, packetOf, padding, tag, zero4, zero6, kind, blocks, marker, zero8, sizeOf, recordBit, recordLength, payloadAt}
 use Rattle.format.specs.Refusals.{_▷_, on, each, lentRefusal, directoryRefusal, recordRefusal, packetRefusal, isDetail, wrongCount, tileRefusal, entryCheck, planeRefusal, packetsRefusal, refusal}
-use Rattle.packets.proofs.Laws.{both-none, each-zero, not-on, on-not, apart, and-true, or-false, inside, valid-long}
+use Rattle.packets.proofs.TurnLaws.{both-none, each-zero, not-on, on-not, apart, and-true, or-false}
+use Rattle.packets.proofs.DirectoryLaws.{inside, valid-long}
 
 -- ---- statements
 
@@ -40,6 +41,7 @@ pub record PacketOk (s : List ℕ) (g : Group) (k : ℕ) : Type 0 where
   pub components : kind (packetOf s (number g) k) ≡ kindOf g
   pub count : (blocks (packetOf s (number g) k) ≡ stripes (codedHeight s) + 1)
       ⊎ ((guarded (codedHeight s) ≡ true) × (blocks (packetOf s (number g) k) ≡ stripes (codedHeight s)))
+  pub few : blocks (packetOf s (number g) k) ≤ stripes (codedHeight s) + 1
   pub headers : (i : ℕ) → i < blocks (packetOf s (number g) k) → recordBit (packetOf s (number g) k) (i + 1) ≤ length (packetOf s (number g) k) * 8
   pub payloads : (i : ℕ) → i < blocks (packetOf s (number g) k)
       → payloadAt (packetOf s (number g) k) i + recordLength (packetOf s (number g) k) i ≤ length (packetOf s (number g) k)
@@ -163,6 +165,7 @@ module _ (s : List ℕ) (g : Group) (k : ℕ) (none : entryCheck s g k ≡ 0) wh
         size = of .2;
         components = kind-in (kind p) (isDetail g) (picked (eqb (kind p) 1) (eqb (kind p) 3) (isDetail g) (of .1) (tile .0) (tile .3));
         count = count-in (codedHeight s) (blocks p) (tile .2);
+        few = ⊎-elim (λ all. omega (arith, all)) (λ fewer. omega (arith, fewer .1)) (count-in (codedHeight s) (blocks p) (tile .2));
         headers = λ i less. record-parts p i (of .3 i less) .0;
         payloads = λ i less. record-parts p i (of .3 i less) .1;
       }

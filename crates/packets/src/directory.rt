@@ -35,6 +35,7 @@ fn entry_count(stream: &[u8], at: usize) -> usize
     field(stream, 8 * at, 8) % 16
 }
 
+// The size of the block at a byte.
 fn block_size(stream: &[u8], at: usize) -> usize
     requires { ⌜ (128 ≤ length (now stream)) × (at < 2 ^ 32) ⌝ }
     ensures { λ r. ⌜ (r ≡ blockSize (now (stream .entry)) at) × (r ≤ 32) ⌝ }
@@ -43,7 +44,7 @@ fn block_size(stream: &[u8], at: usize) -> usize
     if 5 <= n { 32 } else { 16 }
 }
 
-// Where a block has the length of entry index.
+// Where a block has the length of an entry.
 fn length_place(index: usize) -> usize
     requires { ⌜ index < 16 ⌝ }
     ensures { λ r. ⌜ (r ≡ lengthPlace index) × (r < 64) ⌝ }
@@ -55,7 +56,7 @@ fn length_place(index: usize) -> usize
     }
 }
 
-// The length in bytes of entry index of the block at a byte.
+// The length in bytes of an entry of the block at a byte.
 fn entry_length(stream: &[u8], at: usize, index: usize) -> usize
     requires { ⌜ (128 ≤ length (now stream)) × (at < 2 ^ 32) × (index < 16) ⌝ }
     ensures { λ r. ⌜ (r ≡ entryLength (now (stream .entry)) at index) × (r < 2 ^ 28) ⌝ }
@@ -91,7 +92,7 @@ fn group_start(stream: &[u8], group: usize) -> usize
     start
 }
 
-// The length of the first index entries of the block at a byte.
+// The length of the entries before one of the block at a byte.
 fn entries(stream: &[u8], at: usize, index: usize) -> usize
     requires { ⌜ (128 ≤ length (now stream)) × (at < 2 ^ 32) × (index < 16) ⌝ }
     ensures { λ r. ⌜ (r ≡ sum (entryLength (now (stream .entry)) at) index) × (r ≤ index * 2 ^ 28) ⌝ }
@@ -105,7 +106,7 @@ fn entries(stream: &[u8], at: usize, index: usize) -> usize
     total
 }
 
-// Where packet index of group group starts.
+// Where a packet of a group starts.
 pub fn packet_start(stream: &[u8], group: usize, index: usize) -> usize
     requires { ⌜ (128 ≤ length (now stream)) × (group < 5) × (index < 16) ⌝ }
     ensures { λ r. ⌜ (r ≡ packetStart (now (stream .entry)) group index) × (r < 2 ^ 41) ⌝ }
@@ -113,7 +114,7 @@ pub fn packet_start(stream: &[u8], group: usize, index: usize) -> usize
     group_start(stream, group) + entries(stream, block_at(stream, group), index)
 }
 
-// Its length.
+// The length of a packet of a group.
 pub fn packet_length(stream: &[u8], group: usize, index: usize) -> usize
     requires { ⌜ (128 ≤ length (now stream)) × (group < 5) × (index < 16) ⌝ }
     ensures { λ r. ⌜ (r ≡ packetLength (now (stream .entry)) group index) × (r < 2 ^ 28) ⌝ }
@@ -121,7 +122,7 @@ pub fn packet_length(stream: &[u8], group: usize, index: usize) -> usize
     entry_length(stream, block_at(stream, group), index)
 }
 
-// Entry index of group group, if the group has it.
+// An entry of a group, if the group has it.
 pub fn find_entry(stream: &[u8], group: usize, index: usize) -> DirEntry
     requires { ⌜ (128 ≤ length (now stream)) × (group < 5) × (index < 16) ⌝ }
     ensures { λ r. ⌜ r ≡ entryOf (now (stream .entry)) group index ⌝ }
@@ -137,7 +138,7 @@ pub fn find_entry(stream: &[u8], group: usize, index: usize) -> DirEntry
     )
 }
 
-// Each packet of group group lies within the stream.
+// Each of the first packets of a group lies within the stream.
 fn check_entries(stream: &[u8], group: usize, count: usize) -> u32
     requires { ⌜ (128 ≤ length (now stream)) × (group < 5) × (count < 16) ⌝ }
     ensures { λ r. ⌜ r ≡ each (entryRefusal (now (stream .entry)) group) count ⌝ }
@@ -156,6 +157,7 @@ fn check_entries(stream: &[u8], group: usize, count: usize) -> u32
     0
 }
 
+// A group: its block, its entries, their length.
 fn check_group(stream: &[u8], group: usize) -> u32
     requires { ⌜ (128 ≤ length (now stream)) × (group < 5) ⌝ }
     ensures { λ r. ⌜ r ≡ groupRefusal (now (stream .entry)) group ⌝ }

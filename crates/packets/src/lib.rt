@@ -25,7 +25,7 @@ pub struct Checked {
     pub height: usize,
 }
 
-// The part of the stream that is packet index of group group.
+// The packet of an index in a group: a part of the stream itself.
 pub fn packet(stream: &[u8], group: usize, index: usize) -> &[u8]
     requires { ⌜ (128 ≤ length (now stream)) × (group < 5) × (index < 16) × (packetStart (now stream) group index + packetLength (now stream) group index ≤ length (now stream)) ⌝ }
     ensures { λ r. ⌜ now r ≡ packetOf (now (stream .entry)) group index ⌝ }
@@ -46,6 +46,7 @@ fn part(stream: &[u8], start: usize, n: usize) -> &[u8]
     &stream[start..end]
 }
 
+// The coded height: twice the half height.
 fn coded_height(stream: &[u8]) -> usize
     requires { ⌜ 128 ≤ length (now stream) ⌝ }
     ensures { λ r. ⌜ (r ≡ codedHeight (now (stream .entry))) × (r < 2 ^ 17) ⌝ }
@@ -100,7 +101,7 @@ fn wrong_count(height: usize, count: usize) -> bool
     count != n
 }
 
-// A packet in its tile, of coded height H, in group group, of a stream of n bytes.
+// A packet of a kind and a block count in its tile: the group, the coded height, the length of the stream.
 fn check_in_tile(kind: usize, count: usize, group: usize, height: usize, n: usize) -> u32
     requires { ⌜ height < 2 ^ 17 ⌝ }
     ensures { λ r. ⌜ r ≡ tileRefusal kind count (groupOf group) height n ⌝ }
@@ -123,7 +124,7 @@ fn check_in_tile(kind: usize, count: usize, group: usize, height: usize, n: usiz
     0
 }
 
-// Entry index of group group.
+// The entry of an index in a group, and its packet.
 fn check_entry(stream: &[u8], group: usize, index: usize) -> u32
     requires { ⌜ (128 ≤ length (now stream)) × (group < 5) × (index < 16) × (directoryRefusal (now stream) ≡ 0) ⌝ }
     ensures { λ r. ⌜ r ≡ entryCheck (now (stream .entry)) (groupOf group) index ⌝ }
@@ -188,6 +189,7 @@ fn check_packets(stream: &[u8]) -> u32
     check_entry(stream, 4, 0)
 }
 
+// The rows of the planes.
 fn plane_rows(height: usize) -> usize
     requires { ⌜ height < 2 ^ 17 ⌝ }
     ensures { λ r. ⌜ (r ≡ planeRowsOf height) × (r < 2 ^ 17) ⌝ }
@@ -197,7 +199,7 @@ fn plane_rows(height: usize) -> usize
     if rest == 0 { 8 * n } else { 8 * n - 4 }
 }
 
-// The lengths of the lent slices.
+// The size of the planes, and the lengths of the lent slices.
 fn check_lent(w: usize, height: usize, green: usize, red: usize, blue: usize, work: usize) -> u32
     requires { ⌜ (w < 2 ^ 16) × (height < 2 ^ 17) ⌝ }
     ensures { λ r. ⌜ r ≡ lentRefusal w height green red blue work ⌝ }

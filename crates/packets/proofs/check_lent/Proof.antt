@@ -4,7 +4,7 @@ use native.Mathlib.Omega.{arith}
 use borrow.Author.Needs.{needs}
 use borrow.Author.Tests.{lt-ltb, le-ltb}
 use Rattle.format.specs.Refusals.{lentRefusal}
-use Rattle.packets.proofs.Laws.{product}
+use Rattle.packets.proofs.AnswerLaws.{product}
 use Rattle.packets.proofs.check_lent.Statement.{statement}
 use Rattle.packets.proofs.check_lent.Tie as tie
 

@@ -1,6 +1,6 @@
 -- `packets::is_detail` meets its contract. Assumes nothing.
 use mathlib.Core.Path.{sym}
-use Rattle.packets.proofs.Laws.{detail-below, detail-up}
+use Rattle.packets.proofs.AnswerLaws.{detail-below, detail-up}
 use Rattle.packets.proofs.is_detail.Statement.{statement}
 use Rattle.packets.proofs.is_detail.Tie as tie
 
