@@ -1,5 +1,5 @@
 -- Laws of the code's answers: groups and colours by number, entries, the answer of the check. Assumes nothing.
-use mathlib.Core.Path.{_≡_, refl, sym, ap}
+use mathlib.Core.Path.{_≡_, refl, sym, ap, _∙_}
 use mathlib.Core.List.{List}
 use mathlib.Core.Bool.{Bool, true, false, not}
 use Prim.Native.Nat.{ℕ, zero, suc, _+_, _*_, _≤_, _<_}
@@ -11,7 +11,9 @@ use borrow.Author.Tests.{lt-leb, eqb-true}
 use Rattle.format.specs.Sizes.{number, index}
 use Rattle.format.specs.Strip.{width, codedHeight}
 use Rattle.format.specs.Packets.{hasEntry, packetOf, kind, blocks, packetStart, packetLength}
-use Rattle.format.specs.Refusals.{_▷_, on, isDetail, directoryRefusal, tileRefusal, entryCheck, packetRefusal, refusal}
+use Rattle.format.specs.Refusals.{_▷_, on, isDetail, directoryRefusal, tileRefusal, entryCheck, packetRefusal, refusal, refusal}
+use Rattle.packets.specs.declared.Checked.{Checked}
+use Rattle.packets.proofs.Accepted.{Accepted, accepted}
 use Rattle.packets.specs.Answers.{groupOf, colourOf, entered, entryOf, missing, checkedOf}
 use Rattle.packets.specs.declared.directory.DirEntry.{DirEntry}
 use Rattle.packets.specs.declared.directory.DirEntry.the-variants.{At, Missing}
@@ -99,3 +101,15 @@ checked-refusal s k = checked-fields s k (eqb k 0) refl
 pub checked-size : (s : List ℕ) (k : ℕ) → k ≡ 0 → (checkedOf s k .width ≡ width s) × (checkedOf s k .height ≡ codedHeight s)
 unfolding checkedOf
 checked-size s k e = rw e (refl, refl)
+
+-- what a caller of the check learns where it refuses nothing
+pub checked-accepted : (s : List ℕ) (greenN redN blueN workN : ℕ) (c : Checked) → c ≡ checkedOf s (refusal s greenN redN blueN workN) → c .refusal ≡ 0
+    → Accepted s greenN redN blueN workN × (c .width ≡ width s) × (c .height ≡ codedHeight s)
+checked-accepted s greenN redN blueN workN c is none =
+    let k = refusal s greenN redN blueN workN in
+    let zero-is : k ≡ 0 = sym (checked-refusal s k) ∙ ap (λ (x : Checked). x .refusal) (sym is) ∙ none in
+    let sizes = checked-size s k zero-is in (
+      accepted s greenN redN blueN workN zero-is,
+      ap (λ (x : Checked). x .width) is ∙ sizes .0,
+      ap (λ (x : Checked). x .height) is ∙ sizes .1,
+    )

@@ -65,7 +65,7 @@ fn is_detail(group: usize) -> bool
 }
 
 // Kind 3 in group 0 or 4.
-fn three_in_one(kind: usize, group: usize) -> bool
+fn three_outside_detail(kind: usize, group: usize) -> bool
     ensures { λ r. ⌜ r ≡ (eqb kind 3 && not (isDetail (groupOf group))) ⌝ }
 {
     if kind != 3 {
@@ -75,7 +75,7 @@ fn three_in_one(kind: usize, group: usize) -> bool
 }
 
 // Kind 1 in groups 1 to 3.
-fn one_in_three(kind: usize, group: usize) -> bool
+fn one_in_detail(kind: usize, group: usize) -> bool
     ensures { λ r. ⌜ r ≡ (eqb kind 1 && isDetail (groupOf group)) ⌝ }
 {
     if kind != 1 {
@@ -106,7 +106,7 @@ fn check_in_tile(kind: usize, count: usize, group: usize, height: usize, n: usiz
     requires { ⌜ height < 2 ^ 17 ⌝ }
     ensures { λ r. ⌜ r ≡ tileRefusal kind count (groupOf group) height n ⌝ }
 {
-    if three_in_one(kind, group) {
+    if three_outside_detail(kind, group) {
         return 19;
     }
     if 32767 < height {
@@ -118,7 +118,7 @@ fn check_in_tile(kind: usize, count: usize, group: usize, height: usize, n: usiz
     if n / 16 + 1 < count {
         return 22;
     }
-    if one_in_three(kind, group) {
+    if one_in_detail(kind, group) {
         return 23;
     }
     0
