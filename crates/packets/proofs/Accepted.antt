@@ -1,19 +1,19 @@
 -- What an accepted stream gives: its size, the lent slices, and each of its 13 packets. Assumes nothing.
-use mathlib.Core.Path.{_≡_, refl, sym, _∙_}
+use mathlib.Core.Path.{_≡_, refl, sym}
 use mathlib.Core.Logic.{_⊎_, inl, inr, ⊎-elim}
 use mathlib.Core.List.{List}
 use mathlib.Core.Bool.{Bool, true, false, not, cond, _&&_, _||_}
-use Prim.Native.Nat.{ℕ, zero, suc, _+_, _*_, _/_, _%_, _^_, _≤_, _<_}
+use Prim.Native.Nat.{ℕ, _+_, _*_, _/_, _%_, _^_, _≤_, _<_}
 use native.Mathlib.Omega.{arith}
 use lib.ListN.{length, length-drop, drop}
 use lib.Seq.{length-take-le}
 use lib.Dec.{leb, ltb, eqb}
-use borrow.Author.Tests.{ltb-true, ltb-false, eqb-true, eqb-false, not-true, not-false}
+use borrow.Author.Tests.{ltb-false, eqb-true, eqb-false, not-true}
 use Rattle.format.proofs.BitLaws.{bits-lt}
 use Rattle.format.specs.Sizes.{Colour, green, red, blue, index, Level, l1, l2, l3, Group, base, detail, final, number, stripes, guarded, planeRowsOf, planeColumns, workLength}
 use Rattle.format.specs.Strip.{width, halfHeight, codedHeight, magic, sides, marks, validHeader}
 use Rattle.format.specs.Packets.{packetStart, packetLength, hasEntry, packetOf, padding, tag, zero4, zero6, kind, blocks, marker, zero8, sizeOf, recordBit, recordLength, payloadAt}
-use Rattle.format.specs.Refusals.{_▷_, on, each, lentRefusal, directoryRefusal, recordRefusal, packetRefusal, isDetail, wrongCount, tileRefusal, entryCheck, planeRefusal, packetsRefusal, refusal}
+use Rattle.format.specs.Refusals.{on, lentRefusal, directoryRefusal, recordRefusal, packetRefusal, isDetail, wrongCount, tileRefusal, entryCheck, planeRefusal, packetsRefusal, refusal}
 use Rattle.packets.proofs.TurnLaws.{both-none, each-zero, not-on, on-not, apart, and-true, or-false}
 use Rattle.packets.proofs.DirectoryLaws.{inside, valid-long}
 

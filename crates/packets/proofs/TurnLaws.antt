@@ -6,7 +6,6 @@ use Prim.Native.Nat.{ℕ, zero, suc, _+_, _<_}
 use native.Mathlib.Omega.{arith}
 use borrow.Author.Tests.{not-false}
 use Rattle.format.proofs.BitLaws.{le-or-lt}
-use Rattle.format.specs.Sizes.{number}
 use Rattle.format.specs.Packets.{sum}
 use Rattle.format.specs.Refusals.{_▷_, on, each}
 
