@@ -36,12 +36,11 @@ loop-again c =
     let s = c .before .before .before .before .before .before .before .args .stream .now in
     let g = c .before .before .before .before .before .before .before .args .group in
     let l = c .before .before .before .loop in
-    let long = length-read s g _ (l .index) _ (c .before .before .before .before .before .block-at .ensures .0) (c .before .entry-length .ensures .0) in
-    (
-    each-on (entryRefusal s g) (l .index) (l .inv .0) (within s g (l .index) (rw (← (l .inv .1), ← long) (c .if1 .left))),
-    rw (start-on s g (l .index), ← (l .inv .1), ← long) refl,
-    omega arith,
-    omega arith,
+    let long = length-read s g _ (l .index) _ (c .before .before .before .before .before .block-at .ensures .0) (c .before .entry-length .ensures .0) in (
+      each-on (entryRefusal s g) (l .index) (l .inv .0) (within s g (l .index) (rw (← (l .inv .1), ← long) (c .if1 .left))),
+      rw (start-on s g (l .index), ← (l .inv .1), ← long) refl,
+      omega arith,
+      omega arith,
     )
 
 returns-2 : tie.Need-returns-2 Inv-loop μ-loop

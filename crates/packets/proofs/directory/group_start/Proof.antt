@@ -17,12 +17,15 @@ loop-holds : tie.Need-loop-holds Inv-loop μ-loop
 loop-holds c = (group-none (c .before .args .stream .now), omega arith, omega arith)
 
 loop-again : tie.Need-loop-again Inv-loop μ-loop
-loop-again c =
-    (simp (
-      c .group-size .ensures .0,
-      c .before .before .loop .inv .0,
-      group-on (c .before .before .before .before .args .stream .now) (c .before .before .loop .i),
-    ), omega arith, omega arith)
+loop-again c = (
+  simp (
+    c .group-size .ensures .0,
+    c .before .before .loop .inv .0,
+    group-on (c .before .before .before .before .args .stream .now) (c .before .before .loop .i),
+  ),
+  omega arith,
+  omega arith,
+)
 
 returns : tie.Need-returns Inv-loop μ-loop
 returns c = let same : c .before .loop .i ≡ c .before .before .before .args .group = omega arith in (rw (sym same) (c .before .loop .inv .0), omega arith)

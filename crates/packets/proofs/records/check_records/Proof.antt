@@ -44,12 +44,11 @@ loop-again c =
     let p = c .before .before .before .before .before .before .before .before .before .before .before .args .packet .now in
     let l = c .before .before .before .before .before .before .loop in
     let next = bit-read p (l .i + 1) _ _ (c .before .before .before .before .before .before .before .before .before .field .ensures .0) (c .before .before .before .before .record-bit .ensures .0) in
-    let long = record-read p (l .i) _ _ _ (c .before .before .before .before .before .before .before .before .before .field .ensures .0) (c .before .before .record-bit2 .ensures .0) (c .before .field4 .ensures .0) in
-    (
-    each-on (recordRefusal p) (l .i) (l .inv .0) (record-good p (l .i) (rw (← next) (c .before .before .before .if1 .left)) (rw (← (l .inv .1), ← long) (c .if2 .left))),
-    rw (payload-on p (l .i), ← (l .inv .1), ← long) refl,
-    omega (arith, c .before .field4 .ensures .1),
-    omega arith,
+    let long = record-read p (l .i) _ _ _ (c .before .before .before .before .before .before .before .before .before .field .ensures .0) (c .before .before .record-bit2 .ensures .0) (c .before .field4 .ensures .0) in (
+      each-on (recordRefusal p) (l .i) (l .inv .0) (record-good p (l .i) (rw (← next) (c .before .before .before .if1 .left)) (rw (← (l .inv .1), ← long) (c .if2 .left))),
+      rw (payload-on p (l .i), ← (l .inv .1), ← long) refl,
+      omega (arith, c .before .field4 .ensures .1),
+      omega arith,
     )
 
 returns-3 : tie.Need-returns-3 Inv-loop μ-loop
