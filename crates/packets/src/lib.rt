@@ -1,0 +1,270 @@
+// The checks of a stream, which write nothing: document 01, 'Refusals by place of check'. Every refusal is found here.
+ghost use mathlib.Core.Path.{_≡_};
+ghost use mathlib.Core.Bool.{not, _&&_};
+ghost use Prim.Native.Nat.{_+_, _*_, _^_, _<_, _≤_};
+ghost use lib.ListN.{length, take, drop};
+ghost use lib.Dec.{eqb};
+ghost use Rattle.format.specs.Sizes.{planeRowsOf};
+ghost use Rattle.format.specs.Strip.{codedHeight};
+ghost use Rattle.format.specs.Packets.{packetStart, packetLength, packetOf};
+ghost use Rattle.format.specs.Refusals.{isDetail, wrongCount, tileRefusal, directoryRefusal, entryCheck, planeRefusal, packetsRefusal, lentRefusal, refusal};
+ghost use Rattle.packets.specs.Answers.{groupOf, colourOf, checkedOf};
+use words::field;
+
+mod directory;
+mod header;
+mod records;
+
+// The most numbers that a plane has.
+const MAX_PLANE_SAMPLES: usize = 134_217_728;
+
+// The refusal of a stream, 0 for none; the coded size where there is none.
+pub struct Checked {
+    pub refusal: u32,
+    pub width: usize,
+    pub height: usize,
+}
+
+// The packet of an index in a group: a part of the stream itself.
+pub fn packet(stream: &[u8], group: usize, index: usize) -> &[u8]
+    requires { ⌜ (128 ≤ length (now stream)) × (group < 5) × (index < 16) × (packetStart (now stream) group index + packetLength (now stream) group index ≤ length (now stream)) ⌝ }
+    ensures { λ r. ⌜ now r ≡ packetOf (now (stream .entry)) group index ⌝ }
+{
+    part(
+        stream,
+        directory::packet_start(stream, group, index),
+        directory::packet_length(stream, group, index),
+    )
+}
+
+// n bytes of the stream from a start on.
+fn part(stream: &[u8], start: usize, n: usize) -> &[u8]
+    requires { ⌜ start + n ≤ length (now stream) ⌝ }
+    ensures { λ r. ⌜ now r ≡ take n (drop start (now (stream .entry))) ⌝ }
+{
+    let end = start + n;
+    &stream[start..end]
+}
+
+// The coded height: twice the half height.
+fn coded_height(stream: &[u8]) -> usize
+    requires { ⌜ 128 ≤ length (now stream) ⌝ }
+    ensures { λ r. ⌜ (r ≡ codedHeight (now (stream .entry))) × (r < 2 ^ 17) ⌝ }
+{
+    field(stream, 80, 16) * 2
+}
+
+// Groups 1 to 3.
+fn is_detail(group: usize) -> bool
+    ensures { λ r. ⌜ r ≡ isDetail (groupOf group) ⌝ }
+{
+    if group < 1 {
+        return false;
+    }
+    group <= 3
+}
+
+// Kind 3 in group 0 or 4.
+fn three_outside_detail(kind: usize, group: usize) -> bool
+    ensures { λ r. ⌜ r ≡ (eqb kind 3 && not (isDetail (groupOf group))) ⌝ }
+{
+    if kind != 3 {
+        return false;
+    }
+    !is_detail(group)
+}
+
+// Kind 1 in groups 1 to 3.
+fn one_in_detail(kind: usize, group: usize) -> bool
+    ensures { λ r. ⌜ r ≡ (eqb kind 1 && isDetail (groupOf group)) ⌝ }
+{
+    if kind != 1 {
+        return false;
+    }
+    is_detail(group)
+}
+
+// Neither n + 1 records nor, guarded, one fewer.
+fn wrong_count(height: usize, count: usize) -> bool
+    requires { ⌜ height < 2 ^ 17 ⌝ }
+    ensures { λ r. ⌜ r ≡ wrongCount height count ⌝ }
+{
+    let n = (height + 15) / 16;
+    let most = n + 1;
+    let rest = height % 16;
+    if count == most {
+        return false;
+    }
+    if rest == 0 {
+        return true;
+    }
+    count != n
+}
+
+// A packet of a kind and a block count in its tile: the group, the coded height, the length of the stream.
+fn check_in_tile(kind: usize, count: usize, group: usize, height: usize, n: usize) -> u32
+    requires { ⌜ height < 2 ^ 17 ⌝ }
+    ensures { λ r. ⌜ r ≡ tileRefusal kind count (groupOf group) height n ⌝ }
+{
+    if three_outside_detail(kind, group) {
+        return 19;
+    }
+    if 32767 < height {
+        return 20;
+    }
+    if wrong_count(height, count) {
+        return 21;
+    }
+    if n / 16 + 1 < count {
+        return 22;
+    }
+    if one_in_detail(kind, group) {
+        return 23;
+    }
+    0
+}
+
+// The entry of an index in a group, and its packet.
+fn check_entry(stream: &[u8], group: usize, index: usize) -> u32
+    requires { ⌜ (128 ≤ length (now stream)) × (group < 5) × (index < 16) × (directoryRefusal (now stream) ≡ 0) ⌝ }
+    ensures { λ r. ⌜ r ≡ entryCheck (now (stream .entry)) (groupOf group) index ⌝ }
+{
+    let directory::DirEntry::At(start, n) = directory::find_entry(stream, group, index) else {
+        return 9;
+    };
+    let found = part(stream, start, n);
+    let bad = records::parse_packet(found);
+    if bad != 0 {
+        return bad;
+    }
+    check_in_tile(
+        field(found, 48, 2),
+        field(found, 56, 16),
+        group,
+        coded_height(stream),
+        stream.len(),
+    )
+}
+
+// The plane of an index: groups 0 to 3.
+fn check_plane(stream: &[u8], i: usize) -> u32
+    requires { ⌜ (128 ≤ length (now stream)) × (i < 3) × (directoryRefusal (now stream) ≡ 0) ⌝ }
+    ensures { λ r. ⌜ r ≡ planeRefusal (now (stream .entry)) (colourOf i) ⌝ }
+{
+    let a = check_entry(stream, 0, i);
+    if a != 0 {
+        return a;
+    }
+    let b = check_entry(stream, 1, i);
+    if b != 0 {
+        return b;
+    }
+    if coded_height(stream) < 16 {
+        return 24;
+    }
+    let c = check_entry(stream, 2, i);
+    if c != 0 {
+        return c;
+    }
+    check_entry(stream, 3, i)
+}
+
+// Green, red, blue; then group 4.
+fn check_packets(stream: &[u8]) -> u32
+    requires { ⌜ (128 ≤ length (now stream)) × (directoryRefusal (now stream) ≡ 0) ⌝ }
+    ensures { λ r. ⌜ r ≡ packetsRefusal (now (stream .entry)) ⌝ }
+{
+    let green = check_plane(stream, 0);
+    if green != 0 {
+        return green;
+    }
+    let red = check_plane(stream, 1);
+    if red != 0 {
+        return red;
+    }
+    let blue = check_plane(stream, 2);
+    if blue != 0 {
+        return blue;
+    }
+    check_entry(stream, 4, 0)
+}
+
+// The rows of the planes.
+fn plane_rows(height: usize) -> usize
+    requires { ⌜ height < 2 ^ 17 ⌝ }
+    ensures { λ r. ⌜ (r ≡ planeRowsOf height) × (r < 2 ^ 17) ⌝ }
+{
+    let n = (height + 15) / 16;
+    let rest = height % 16;
+    if rest == 0 { 8 * n } else { 8 * n - 4 }
+}
+
+// The size of the planes, and the lengths of the lent slices.
+fn check_lent(w: usize, height: usize, green: usize, red: usize, blue: usize, work: usize) -> u32
+    requires { ⌜ (w < 2 ^ 16) × (height < 2 ^ 17) ⌝ }
+    ensures { λ r. ⌜ r ≡ lentRefusal w height green red blue work ⌝ }
+{
+    let n = plane_rows(height);
+    let full = n * w;
+    if MAX_PLANE_SAMPLES < full {
+        return 3;
+    }
+    if green < full {
+        return 4;
+    }
+    let half = n * (w / 2);
+    if red < half {
+        return 4;
+    }
+    if blue < half {
+        return 4;
+    }
+    if work < 16 * ((height + 15) / 16 + 1) * w {
+        return 4;
+    }
+    0
+}
+
+// The first refusal, in the document's order.
+fn first_refusal(stream: &[u8], green: usize, red: usize, blue: usize, work: usize) -> u32
+    ensures { λ r. ⌜ r ≡ refusal (now (stream .entry)) green red blue work ⌝ }
+{
+    if !header::valid_header(stream) {
+        return 2;
+    }
+    let a = check_lent(
+        field(stream, 64, 16),
+        coded_height(stream),
+        green,
+        red,
+        blue,
+        work,
+    );
+    if a != 0 {
+        return a;
+    }
+    let b = directory::parse_directory(stream);
+    if b != 0 {
+        return b;
+    }
+    check_packets(stream)
+}
+
+// All checks of a stream, with the lengths of the lent slices.
+pub fn check(stream: &[u8], green: usize, red: usize, blue: usize, work: usize) -> Checked
+    ensures { λ r. ⌜ r ≡ checkedOf (now (stream .entry)) (refusal (now (stream .entry)) green red blue work) ⌝ }
+{
+    let refusal = first_refusal(stream, green, red, blue, work);
+    if refusal != 0 {
+        return Checked {
+            refusal,
+            width: 0,
+            height: 0,
+        };
+    }
+    Checked {
+        refusal: 0,
+        width: field(stream, 64, 16),
+        height: coded_height(stream),
+    }
+}
