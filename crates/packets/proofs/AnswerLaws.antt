@@ -13,11 +13,11 @@ use Rattle.format.specs.Strip.{width, codedHeight}
 use Rattle.format.specs.Packets.{hasEntry, packetOf, kind, blocks, packetStart, packetLength}
 use Rattle.format.specs.Refusals.{_▷_, on, isDetail, directoryRefusal, tileRefusal, entryCheck, packetRefusal, refusal, refusal}
 use Rattle.packets.specs.declared.Checked.{Checked}
-use Rattle.packets.proofs.Accepted.{Accepted, accepted}
+use Rattle.format.proofs.Accepted.{Accepted, accepted}
 use Rattle.packets.specs.Answers.{groupOf, colourOf, entered, entryOf, missing, checkedOf}
 use Rattle.packets.specs.declared.directory.DirEntry.{DirEntry}
 use Rattle.packets.specs.declared.directory.DirEntry.the-variants.{At, Missing}
-use Rattle.packets.proofs.DirectoryLaws.{inside}
+use Rattle.format.proofs.DirectoryLaws.{inside}
 
 pub product : (a b c d : ℕ) → a ≤ b → c ≤ d → a * c ≤ b * d
 product a b c d h k = mul-le-mul h k

@@ -4,7 +4,7 @@ use native.Mathlib.Omega.{arith}
 use borrow.Author.Needs.{needs}
 use borrow.Author.Tests.{ne-eqb}
 use Rattle.packets.specs.Answers.{checkedOf}
-use Rattle.packets.proofs.DirectoryLaws.{refusal-long}
+use Rattle.format.proofs.DirectoryLaws.{refusal-long}
 use Rattle.packets.proofs.check.Statement.{statement}
 use Rattle.packets.proofs.check.Tie as tie
 

@@ -3,8 +3,8 @@ use mathlib.Core.Path.{_≡_, sym, ap, _∙_}
 use native.Mathlib.Omega.{arith}
 use borrow.Author.Needs.{needs}
 use Rattle.packets.specs.Answers.{entryOf, missing}
-use Rattle.packets.proofs.TurnLaws.{stops}
-use Rattle.packets.proofs.RecordLaws.{packet-long}
+use Rattle.format.proofs.TurnLaws.{stops}
+use Rattle.format.proofs.RecordLaws.{packet-long}
 use Rattle.packets.proofs.AnswerLaws.{packet-at, entry-check, found-inside}
 use Rattle.packets.proofs.check_entry.Statement.{statement}
 use Rattle.packets.proofs.check_entry.Tie as tie

@@ -2,7 +2,7 @@
 use mathlib.Core.Path.{sym}
 use borrow.Author.Needs.{needs}
 use Rattle.format.specs.Refusals.{packetsRefusal}
-use Rattle.packets.proofs.TurnLaws.{stops}
+use Rattle.format.proofs.TurnLaws.{stops}
 use Rattle.packets.proofs.check_packets.Statement.{statement}
 use Rattle.packets.proofs.check_packets.Tie as tie
 

@@ -3,7 +3,7 @@ use mathlib.Core.Path.{sym}
 use borrow.Author.Needs.{needs}
 use borrow.Author.Tests.{lt-ltb, le-ltb}
 use Rattle.format.specs.Refusals.{planeRefusal}
-use Rattle.packets.proofs.TurnLaws.{stops}
+use Rattle.format.proofs.TurnLaws.{stops}
 use Rattle.packets.proofs.AnswerLaws.{index-of}
 use Rattle.packets.proofs.check_plane.Statement.{statement}
 use Rattle.packets.proofs.check_plane.Tie as tie

@@ -4,8 +4,8 @@ use native.Mathlib.Omega.{arith}
 use borrow.Author.Needs.{needs}
 use borrow.Author.Tests.{not-true, not-false}
 use Rattle.format.specs.Refusals.{refusal}
-use Rattle.packets.proofs.TurnLaws.{stops}
-use Rattle.packets.proofs.DirectoryLaws.{header-long}
+use Rattle.format.proofs.TurnLaws.{stops}
+use Rattle.format.proofs.DirectoryLaws.{header-long}
 use Rattle.packets.proofs.first_refusal.Statement.{statement}
 use Rattle.packets.proofs.first_refusal.Tie as tie
 

@@ -3,7 +3,7 @@ use mathlib.Core.Path.{_≡_, sym}
 use Prim.Native.Nat.{_+_, _-_, _*_, _≤_}
 use native.Mathlib.Omega.{arith}
 use Rattle.format.specs.Packets.{blockAt}
-use Rattle.packets.proofs.DirectoryLaws.{block-none, block-on}
+use Rattle.format.proofs.DirectoryLaws.{block-none, block-on}
 use Rattle.packets.proofs.directory.block_at.Statement.{statement}
 use Rattle.packets.proofs.directory.block_at.Tie as tie
 

@@ -4,8 +4,8 @@ use Prim.Native.Nat.{_+_, _-_, _*_, _^_, _≤_}
 use native.Mathlib.Omega.{arith}
 use Rattle.format.specs.Packets.{packetStart}
 use Rattle.format.specs.Refusals.{each, entryRefusal}
-use Rattle.packets.proofs.TurnLaws.{each-none, each-on, refused}
-use Rattle.packets.proofs.DirectoryLaws.{seven, within, start-none, start-on, length-read}
+use Rattle.format.proofs.TurnLaws.{each-none, each-on, refused}
+use Rattle.format.proofs.DirectoryLaws.{seven, within, start-none, start-on, length-read}
 use Rattle.packets.proofs.directory.check_entries.Statement.{statement}
 use Rattle.packets.proofs.directory.check_entries.Tie as tie
 

@@ -3,8 +3,8 @@ use mathlib.Core.Path.{sym}
 use borrow.Author.Needs.{needs}
 use borrow.Author.Tests.{lt-ltb, le-ltb}
 use Rattle.format.specs.Refusals.{groupRefusal}
-use Rattle.packets.proofs.TurnLaws.{stops}
-use Rattle.packets.proofs.DirectoryLaws.{lengths-read}
+use Rattle.format.proofs.TurnLaws.{stops}
+use Rattle.format.proofs.DirectoryLaws.{lengths-read}
 use Rattle.packets.proofs.directory.check_group.Statement.{statement}
 use Rattle.packets.proofs.directory.check_group.Tie as tie
 

@@ -3,7 +3,7 @@ use mathlib.Core.Path.{_≡_, sym}
 use Prim.Native.Nat.{_-_, _*_, _^_, _≤_}
 use native.Mathlib.Omega.{arith}
 use Rattle.format.specs.Packets.{sum, entryLength}
-use Rattle.packets.proofs.TurnLaws.{sum-none, sum-on}
+use Rattle.format.proofs.TurnLaws.{sum-none, sum-on}
 use Rattle.packets.proofs.directory.entries.Statement.{statement}
 use Rattle.packets.proofs.directory.entries.Tie as tie
 

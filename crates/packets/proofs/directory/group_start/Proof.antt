@@ -3,7 +3,7 @@ use mathlib.Core.Path.{_≡_, sym}
 use Prim.Native.Nat.{_+_, _-_, _*_, _^_, _≤_}
 use native.Mathlib.Omega.{arith}
 use Rattle.format.specs.Packets.{groupStart}
-use Rattle.packets.proofs.DirectoryLaws.{group-none, group-on}
+use Rattle.format.proofs.DirectoryLaws.{group-none, group-on}
 use Rattle.packets.proofs.directory.group_start.Statement.{statement}
 use Rattle.packets.proofs.directory.group_start.Tie as tie
 

@@ -3,7 +3,7 @@ use mathlib.Core.Path.{_≡_, sym, _∙_}
 use Prim.Native.Nat.{_-_, _≤_}
 use native.Mathlib.Omega.{arith}
 use Rattle.format.specs.Refusals.{each, groupRefusal, directoryRefusal}
-use Rattle.packets.proofs.TurnLaws.{each-none, each-on, each-stop}
+use Rattle.format.proofs.TurnLaws.{each-none, each-on, each-stop}
 use Rattle.packets.proofs.directory.parse_directory.Statement.{statement}
 use Rattle.packets.proofs.directory.parse_directory.Tie as tie
 

@@ -4,8 +4,8 @@ use Prim.Native.Nat.{_+_, _-_, _*_, _^_, _≤_}
 use native.Mathlib.Omega.{arith}
 use Rattle.format.specs.Packets.{kind, blocks, payloadAt}
 use Rattle.format.specs.Refusals.{each, recordRefusal}
-use Rattle.packets.proofs.TurnLaws.{each-none, each-on, refused}
-use Rattle.packets.proofs.RecordLaws.{eleven, eighteen, record-good, bit-read, record-read, payload-on, payload-none}
+use Rattle.format.proofs.TurnLaws.{each-none, each-on, refused}
+use Rattle.format.proofs.RecordLaws.{eleven, eighteen, record-good, bit-read, record-read, payload-on, payload-none}
 use Rattle.packets.proofs.records.check_records.Statement.{statement}
 use Rattle.packets.proofs.records.check_records.Tie as tie
 

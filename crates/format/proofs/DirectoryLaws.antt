@@ -8,10 +8,10 @@ use native.Mathlib.Nat.{add-zero}
 use lib.ListN.{length}
 use lib.Dec.{ltb}
 use borrow.Author.Tests.{lt-ltb, le-ltb, ltb-true, ltb-false, leb-true, not-false}
 use Rattle.format.specs.Strip.{magic, sides, marks, validHeader, groupSize}
 use Rattle.format.specs.Packets.{sum, entryCount, hasEntry, entryLength, blockSize, blockAt, groupStart, packetStart, packetLength}
 use Rattle.format.specs.Refusals.{on, each, entryRefusal, groupRefusal, directoryRefusal, refusal}
-use Rattle.packets.proofs.TurnLaws.{one, sum-none, sum-on, both-none, not-on, on-not, and-true, each-zero}
+use Rattle.format.proofs.TurnLaws.{one, sum-none, sum-on, both-none, not-on, on-not, and-true, each-zero}
 
 pub valid-long : (s : List ℕ) → validHeader s ≡ true → 128 ≤ length s
 unfolding validHeader

@@ -9,19 +9,16 @@ use lib.ListN.{length, length-drop, drop}
 use lib.Seq.{length-take-le}
 use lib.Dec.{leb, ltb, eqb}
 use borrow.Author.Tests.{ltb-false, eqb-true, eqb-false, not-true}
 use Rattle.format.proofs.BitLaws.{bits-lt}
-use Rattle.format.specs.Sizes.{Colour, green, red, blue, index, Level, l1, l2, l3, Group, base, detail, final, number, stripes, guarded, planeRowsOf, planeColumns, workLength}
+use Rattle.format.proofs.Exact.{Coded}
+use Rattle.format.specs.Sizes.{Colour, green, red, blue, index, Level, l1, l2, l3, Group, base, detail, final, number, components, stripes, guarded, planeRowsOf, planeColumns, workLength}
 use Rattle.format.specs.Strip.{width, halfHeight, codedHeight, magic, sides, marks, validHeader}
 use Rattle.format.specs.Packets.{packetStart, packetLength, hasEntry, packetOf, padding, tag, zero4, zero6, kind, blocks, marker, zero8, sizeOf, recordBit, recordLength, payloadAt}
 use Rattle.format.specs.Refusals.{on, lentRefusal, directoryRefusal, recordRefusal, packetRefusal, isDetail, wrongCount, tileRefusal, entryCheck, planeRefusal, packetsRefusal, refusal}
-use Rattle.packets.proofs.TurnLaws.{both-none, each-zero, not-on, on-not, apart, and-true, or-false}
-use Rattle.packets.proofs.DirectoryLaws.{inside, valid-long}
+use Rattle.format.proofs.TurnLaws.{both-none, each-zero, not-on, on-not, apart, and-true, or-false}
+use Rattle.format.proofs.DirectoryLaws.{inside, valid-long}
 
 -- ---- statements
-
--- the kind of the packets of a group
-abbrev pub kindOf : Group → ℕ
-kindOf g = cond (isDetail g) 3 1
 
 -- whether a tile has a packet of a group and a colour: group 4 has only green's
 abbrev pub present : Group → Colour → Bool
@@ -38,7 +35,7 @@ pub record PacketOk (s : List ℕ) (g : Group) (k : ℕ) : Type 0 where
   pub bytes : length (packetOf s (number g) k) ≡ packetLength s (number g) k
   pub long : 16 ≤ length (packetOf s (number g) k)
   pub size : sizeOf (packetOf s (number g) k) ≡ length (packetOf s (number g) k)
-  pub components : kind (packetOf s (number g) k) ≡ kindOf g
+  pub kinds : kind (packetOf s (number g) k) ≡ components g
   pub count : (blocks (packetOf s (number g) k) ≡ stripes (codedHeight s) + 1)
       ⊎ ((guarded (codedHeight s) ≡ true) × (blocks (packetOf s (number g) k) ≡ stripes (codedHeight s)))
   pub few : blocks (packetOf s (number g) k) ≤ stripes (codedHeight s) + 1
@@ -46,21 +43,25 @@ pub record PacketOk (s : List ℕ) (g : Group) (k : ℕ) : Type 0 where
   pub payloads : (i : ℕ) → i < blocks (packetOf s (number g) k)
       → payloadAt (packetOf s (number g) k) i + recordLength (packetOf s (number g) k) i ≤ length (packetOf s (number g) k)
 
--- an accepted stream, with lent slices so long
-pub record Accepted (s : List ℕ) (greenN redN blueN workN : ℕ) : Type 0 where
+-- a stream that no check of its own bytes refuses
+pub record Good (s : List ℕ) : Type 0 where
   pub valid : validHeader s ≡ true
   pub long : 128 ≤ length s
-  pub columns16 : width s % 16 ≡ 0
+  pub whole : width s % 16 ≡ 0
   pub wide : 16 ≤ width s
   pub narrow : width s < 2 ^ 16
   pub tall : 16 ≤ codedHeight s
   pub low : codedHeight s ≤ 32767
+  pub packets : (g : Group) (i : Colour) → present g i ≡ true → PacketOk s g (index i)
+
+-- an accepted stream, with lent slices so long
+pub record Accepted (s : List ℕ) (greenN redN blueN workN : ℕ) : Type 0 where
+  pub good : Good s
   pub small : planeRowsOf (codedHeight s) * width s ≤ 134217728
   pub greens : planeRowsOf (codedHeight s) * planeColumns (width s) green ≤ greenN
   pub reds : planeRowsOf (codedHeight s) * planeColumns (width s) red ≤ redN
   pub blues : planeRowsOf (codedHeight s) * planeColumns (width s) blue ≤ blueN
   pub works : workLength (width s) (codedHeight s) ≤ workN
-  pub packets : (g : Group) (i : Colour) → present g i ≡ true → PacketOk s g (index i)
 
 -- ---- a packet
 
@@ -72,9 +73,10 @@ picked true b false e f h = refl
 picked false true false e f h = absurd (apart f)
 picked false false false e f h = e
 
-kind-in : (k : ℕ) (d : Bool) → cond d (eqb k 3) (eqb k 1) ≡ true → k ≡ cond d 3 1
-kind-in k true e = eqb-true k 3 e
-kind-in k false e = eqb-true k 1 e
+kind-in : (k : ℕ) (g : Group) → cond (isDetail g) (eqb k 3) (eqb k 1) ≡ true → k ≡ components g
+kind-in k base e = eqb-true k 1 e
+kind-in k (detail l) e = eqb-true k 3 e
+kind-in k final e = eqb-true k 1 e
 
 -- where neither of two fails, one holds
 either : (a b c : Bool) → (not a && not (b && c)) ≡ false → (a ≡ true) ⊎ ((b ≡ true) × (c ≡ true))
@@ -163,7 +165,7 @@ module _ (s : List ℕ) (g : Group) (k : ℕ) (none : entryCheck s g k ≡ 0) wh
         bytes = packet-bytes s (number g) k lies;
         long = of .0;
         size = of .2;
-        components = kind-in (kind p) (isDetail g) (picked (eqb (kind p) 1) (eqb (kind p) 3) (isDetail g) (of .1) (tile .0) (tile .3));
+        kinds = kind-in (kind p) g (picked (eqb (kind p) 1) (eqb (kind p) 3) (isDetail g) (of .1) (tile .0) (tile .3));
         count = count-in (codedHeight s) (blocks p) (tile .2);
         few = ⊎-elim (λ all. omega (arith, all)) (λ fewer. omega (arith, fewer .1)) (count-in (codedHeight s) (blocks p) (tile .2));
         headers = λ i less. record-parts p i (of .3 i less) .0;
@@ -247,18 +249,20 @@ accepted s greenN redN blueN workN none =
     let valid = on-not (validHeader s) 1 (a .0) in
     let lent = lent-parts (width s) (codedHeight s) greenN redN blueN workN (b .0) in
     let here = entry-none s (c .1) in
-    record {
+    let good : Good s = record {
       valid = valid;
       long = valid-long s valid;
-      columns16 = width-parts s valid .0;
+      whole = width-parts s valid .0;
       wide = width-parts s valid .1;
       narrow = bits-lt s 64 16;
       tall = plane-parts s green (packets-parts s (c .1) .0 green) .1;
       low = entry-low s base 0 (here base green refl);
-      small = lent .0;
-      greens = lent .1;
-      reds = lent .2;
-      blues = lent .3;
-      works = lent .4;
       packets = λ g i at. packet-ok s g (index i) (here g i at) (c .0);
-    }
+    } in
+    record { good = good; small = lent .0; greens = lent .1; reds = lent .2; blues = lent .3; works = lent .4 }
+
+-- its coded size is one that recovery speaks of
+pub coded : (s : List ℕ) (greenN redN blueN workN : ℕ) → refusal s greenN redN blueN workN ≡ 0 → Coded (width s) (codedHeight s)
+coded s greenN redN blueN workN none =
+    let good = accepted s greenN redN blueN workN none .good in
+    record { whole = good .whole; tall = good .tall }
