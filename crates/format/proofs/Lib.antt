@@ -7,7 +7,10 @@ pub mod PlaceLaws
 pub mod TableLaws
 pub mod Exact
 pub mod T800Laws
-pub mod RefusalLaws
+pub mod TurnLaws
+pub mod DirectoryLaws
+pub mod RecordLaws
+pub mod Accepted
 pub mod Ranges
 pub mod Points
 pub mod Places

@@ -1,13 +1,10 @@
--- What the code's answers are by document 01: the number for each case, and the checks of a packet's header in three parts.
+-- What the code's answers are by document 01, case by case.
 use mathlib.Core.List.{List}
-use mathlib.Core.Bool.{Bool, true, false, not, cond, _||_}
+use mathlib.Core.Bool.{Bool, true, false, cond}
 use Prim.Native.Nat.{ℕ, zero, suc}
-use lib.ListN.{length}
-use lib.Dec.{ltb, eqb}
 use Rattle.format.specs.Sizes.{Colour, green, red, blue, l1, l2, l3, Group, base, detail, final}
 use Rattle.format.specs.Strip.{width, codedHeight}
-use Rattle.format.specs.Packets.{packetStart, packetLength, hasEntry, tag, zero4, kind, zero6, blocks, marker, zero8, padding, sizeOf}
-use Rattle.format.specs.Refusals.{_▷_, on}
+use Rattle.format.specs.Packets.{packetStart, packetLength, hasEntry}
 use Rattle.format.specs.Tile.{accepted}
 use Rattle.packets.specs.declared.Checked.{Checked}
 use Rattle.packets.specs.declared.directory.DirEntry.{DirEntry}
@@ -37,16 +34,6 @@ entryOf s g k = entered (hasEntry s g k) (packetStart s g k) (packetLength s g k
 abbrev pub missing : DirEntry → ℕ
 missing (At start n) = 0
 missing Missing = 9
-
--- a packet's header: 12 and 13; 14 and 15; 16 and 17
-unfoldable pub marksRefusal : List ℕ → ℕ
-marksRefusal p = on (not (eqb (padding p) 0)) 12 ▷ on (not (eqb (tag p) 4) || not (eqb (zero4 p) 0) || not (eqb (zero6 p) 0)) 13
-
-unfoldable pub countsRefusal : List ℕ → ℕ
-countsRefusal p = on (not (eqb (kind p) 1 || eqb (kind p) 3)) 14 ▷ on (eqb (blocks p) 0 || ltb 30000 (blocks p)) 15
-
-unfoldable pub sizeRefusal : List ℕ → ℕ
-sizeRefusal p = on (not (eqb (marker p) 16) || not (eqb (zero8 p) 0)) 16 ▷ on (not (eqb (sizeOf p) (length p))) 17
 
 -- the answer: a refusal with every other field 0; the coded size where there is none
 unfoldable pub checkedOf : List ℕ → ℕ → Checked

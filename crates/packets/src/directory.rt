@@ -8,6 +8,11 @@ ghost use Rattle.format.specs.Refusals.{each, entryRefusal, groupRefusal, direc
 ghost use Rattle.packets.specs.Answers.{entryOf};
 use words::field;
 
+// Where a stream's directory and its first packet start.
+const DIRECTORY: usize = 48;
+
+const HEADER: usize = 128;
+
 // Where an entry's packet starts in the stream, and its length.
 pub enum DirEntry {
     At(usize, usize),
@@ -15,11 +20,11 @@ pub enum DirEntry {
 }
 
 // The size of a group in bytes.
-fn group_size(stream: &[u8], g: usize) -> usize
-    requires { ⌜ (128 ≤ length (now stream)) × (g < 5) ⌝ }
-    ensures { λ r. ⌜ (r ≡ groupSize (now (stream .entry)) g) × (r < 2 ^ 28) ⌝ }
+fn group_size(stream: &[u8], group: usize) -> usize
+    requires { ⌜ (128 ≤ length (now stream)) × (group < 5) ⌝ }
+    ensures { λ r. ⌜ (r ≡ groupSize (now (stream .entry)) group) × (r < 2 ^ 28) ⌝ }
 {
-    field(stream, 8 * (16 + 3 * g), 24) * 16
+    field(stream, 8 * (16 + 3 * group), 24) * 16
 }
 
 // The entry count of the block at a byte.
@@ -30,6 +35,7 @@ fn entry_count(stream: &[u8], at: usize) -> usize
     field(stream, 8 * at, 8) % 16
 }
 
+// The size of the block at a byte.
 fn block_size(stream: &[u8], at: usize) -> usize
     requires { ⌜ (128 ≤ length (now stream)) × (at < 2 ^ 32) ⌝ }
     ensures { λ r. ⌜ (r ≡ blockSize (now (stream .entry)) at) × (r ≤ 32) ⌝ }
@@ -38,30 +44,34 @@ fn block_size(stream: &[u8], at: usize) -> usize
     if 5 <= n { 32 } else { 16 }
 }
 
-// Where a block has the length of entry k.
-fn length_place(k: usize) -> usize
-    requires { ⌜ k < 16 ⌝ }
-    ensures { λ r. ⌜ (r ≡ lengthPlace k) × (r < 64) ⌝ }
+// Where a block has the length of an entry.
+fn length_place(index: usize) -> usize
+    requires { ⌜ index < 16 ⌝ }
+    ensures { λ r. ⌜ (r ≡ lengthPlace index) × (r < 64) ⌝ }
 {
-    if k < 5 { 1 + 3 * k } else { 17 + 3 * (k - 5) }
+    if index < 5 {
+        1 + 3 * index
+    } else {
+        17 + 3 * (index - 5)
+    }
 }
 
-// The length in bytes of entry k of the block at a byte.
-fn entry_length(stream: &[u8], at: usize, k: usize) -> usize
-    requires { ⌜ (128 ≤ length (now stream)) × (at < 2 ^ 32) × (k < 16) ⌝ }
-    ensures { λ r. ⌜ (r ≡ entryLength (now (stream .entry)) at k) × (r < 2 ^ 28) ⌝ }
+// The length in bytes of an entry of the block at a byte.
+fn entry_length(stream: &[u8], at: usize, index: usize) -> usize
+    requires { ⌜ (128 ≤ length (now stream)) × (at < 2 ^ 32) × (index < 16) ⌝ }
+    ensures { λ r. ⌜ (r ≡ entryLength (now (stream .entry)) at index) × (r < 2 ^ 28) ⌝ }
 {
-    field(stream, 8 * (at + length_place(k)), 24) * 16
+    field(stream, 8 * (at + length_place(index)), 24) * 16
 }
 
 // The block of a group.
-fn block_at(stream: &[u8], g: usize) -> usize
-    requires { ⌜ (128 ≤ length (now stream)) × (g < 5) ⌝ }
-    ensures { λ r. ⌜ (r ≡ blockAt (now (stream .entry)) g) × (r < 2 ^ 31) ⌝ }
+fn block_at(stream: &[u8], group: usize) -> usize
+    requires { ⌜ (128 ≤ length (now stream)) × (group < 5) ⌝ }
+    ensures { λ r. ⌜ (r ≡ blockAt (now (stream .entry)) group) × (r < 2 ^ 31) ⌝ }
 {
-    let mut at = 48;
+    let mut at = DIRECTORY;
     let mut i = 0;
-    while i < g {
+    while i < group {
         at += block_size(stream, at);
         i += 1;
     }
@@ -69,86 +79,90 @@ fn block_at(stream: &[u8], g: usize) -> usize
 }
 
 // Where the packets of a group start.
-fn group_start(stream: &[u8], g: usize) -> usize
-    requires { ⌜ (128 ≤ length (now stream)) × (g < 5) ⌝ }
-    ensures { λ r. ⌜ (r ≡ groupStart (now (stream .entry)) g) × (r < 2 ^ 40) ⌝ }
+fn group_start(stream: &[u8], group: usize) -> usize
+    requires { ⌜ (128 ≤ length (now stream)) × (group < 5) ⌝ }
+    ensures { λ r. ⌜ (r ≡ groupStart (now (stream .entry)) group) × (r < 2 ^ 40) ⌝ }
 {
-    let mut start = 128;
+    let mut start = HEADER;
     let mut i = 0;
-    while i < g {
+    while i < group {
         start += group_size(stream, i);
         i += 1;
     }
     start
 }
 
-// The length of the first k entries of the block at a byte.
-fn entries(stream: &[u8], at: usize, k: usize) -> usize
-    requires { ⌜ (128 ≤ length (now stream)) × (at < 2 ^ 32) × (k < 16) ⌝ }
-    ensures { λ r. ⌜ (r ≡ sum (entryLength (now (stream .entry)) at) k) × (r ≤ k * 2 ^ 28) ⌝ }
+// The length of the entries before one of the block at a byte.
+fn entries(stream: &[u8], at: usize, index: usize) -> usize
+    requires { ⌜ (128 ≤ length (now stream)) × (at < 2 ^ 32) × (index < 16) ⌝ }
+    ensures { λ r. ⌜ (r ≡ sum (entryLength (now (stream .entry)) at) index) × (r ≤ index * 2 ^ 28) ⌝ }
 {
     let mut total = 0;
     let mut i = 0;
-    while i < k {
+    while i < index {
         total += entry_length(stream, at, i);
         i += 1;
     }
     total
 }
 
-// Where packet k of group g starts.
-pub fn packet_start(stream: &[u8], g: usize, k: usize) -> usize
-    requires { ⌜ (128 ≤ length (now stream)) × (g < 5) × (k < 16) ⌝ }
-    ensures { λ r. ⌜ (r ≡ packetStart (now (stream .entry)) g k) × (r < 2 ^ 41) ⌝ }
+// Where a packet of a group starts.
+pub fn packet_start(stream: &[u8], group: usize, index: usize) -> usize
+    requires { ⌜ (128 ≤ length (now stream)) × (group < 5) × (index < 16) ⌝ }
+    ensures { λ r. ⌜ (r ≡ packetStart (now (stream .entry)) group index) × (r < 2 ^ 41) ⌝ }
 {
-    group_start(stream, g) + entries(stream, block_at(stream, g), k)
+    group_start(stream, group) + entries(stream, block_at(stream, group), index)
 }
 
-// Its length.
-pub fn packet_length(stream: &[u8], g: usize, k: usize) -> usize
-    requires { ⌜ (128 ≤ length (now stream)) × (g < 5) × (k < 16) ⌝ }
-    ensures { λ r. ⌜ (r ≡ packetLength (now (stream .entry)) g k) × (r < 2 ^ 28) ⌝ }
+// The length of a packet of a group.
+pub fn packet_length(stream: &[u8], group: usize, index: usize) -> usize
+    requires { ⌜ (128 ≤ length (now stream)) × (group < 5) × (index < 16) ⌝ }
+    ensures { λ r. ⌜ (r ≡ packetLength (now (stream .entry)) group index) × (r < 2 ^ 28) ⌝ }
 {
-    entry_length(stream, block_at(stream, g), k)
+    entry_length(stream, block_at(stream, group), index)
 }
 
-// Entry k of group g, if the group has it.
-pub fn find_entry(stream: &[u8], g: usize, k: usize) -> DirEntry
-    requires { ⌜ (128 ≤ length (now stream)) × (g < 5) × (k < 16) ⌝ }
-    ensures { λ r. ⌜ r ≡ entryOf (now (stream .entry)) g k ⌝ }
+// An entry of a group, if the group has it.
+pub fn find_entry(stream: &[u8], group: usize, index: usize) -> DirEntry
+    requires { ⌜ (128 ≤ length (now stream)) × (group < 5) × (index < 16) ⌝ }
+    ensures { λ r. ⌜ r ≡ entryOf (now (stream .entry)) group index ⌝ }
 {
-    let at = block_at(stream, g);
+    let at = block_at(stream, group);
     let count = entry_count(stream, at);
-    if count <= k {
+    if count <= index {
         return DirEntry::Missing;
     }
-    DirEntry::At(packet_start(stream, g, k), packet_length(stream, g, k))
+    DirEntry::At(
+        packet_start(stream, group, index),
+        packet_length(stream, group, index),
+    )
 }
 
-// Each packet of group g lies within the stream.
-fn check_entries(stream: &[u8], g: usize, count: usize) -> u32
-    requires { ⌜ (128 ≤ length (now stream)) × (g < 5) × (count < 16) ⌝ }
-    ensures { λ r. ⌜ r ≡ each (entryRefusal (now (stream .entry)) g) count ⌝ }
+// Each of the first packets of a group lies within the stream.
+fn check_entries(stream: &[u8], group: usize, count: usize) -> u32
+    requires { ⌜ (128 ≤ length (now stream)) × (group < 5) × (count < 16) ⌝ }
+    ensures { λ r. ⌜ r ≡ each (entryRefusal (now (stream .entry)) group) count ⌝ }
 {
-    let at = block_at(stream, g);
-    let mut start = group_start(stream, g);
-    let mut k = 0;
-    while k < count {
-        let n = entry_length(stream, at, k);
+    let at = block_at(stream, group);
+    let mut start = group_start(stream, group);
+    let mut index = 0;
+    while index < count {
+        let n = entry_length(stream, at, index);
         if stream.len() < start + n {
             return 7;
         }
         start += n;
-        k += 1;
+        index += 1;
     }
     0
 }
 
-fn check_group(stream: &[u8], g: usize) -> u32
-    requires { ⌜ (128 ≤ length (now stream)) × (g < 5) ⌝ }
-    ensures { λ r. ⌜ r ≡ groupRefusal (now (stream .entry)) g ⌝ }
+// A group: its block, its entries, their length.
+fn check_group(stream: &[u8], group: usize) -> u32
+    requires { ⌜ (128 ≤ length (now stream)) × (group < 5) ⌝ }
+    ensures { λ r. ⌜ r ≡ groupRefusal (now (stream .entry)) group ⌝ }
 {
-    let at = block_at(stream, g);
+    let at = block_at(stream, group);
     if stream.len() < at + 16 {
         return 5;
     }
@@ -159,11 +173,11 @@ fn check_group(stream: &[u8], g: usize) -> u32
     if stream.len() < at + block_size(stream, at) {
         return 5;
     }
-    let bad = check_entries(stream, g, count);
+    let bad = check_entries(stream, group, count);
     if bad != 0 {
         return bad;
     }
-    if group_size(stream, g) < entries(stream, at, count) {
+    if group_size(stream, group) < entries(stream, at, count) {
         return 8;
     }
     0
@@ -174,13 +188,13 @@ pub fn parse_directory(stream: &[u8]) -> u32
     requires { ⌜ 128 ≤ length (now stream) ⌝ }
     ensures { λ r. ⌜ r ≡ directoryRefusal (now (stream .entry)) ⌝ }
 {
-    let mut g = 0;
-    while g < 5 {
-        let bad = check_group(stream, g);
+    let mut group = 0;
+    while group < 5 {
+        let bad = check_group(stream, group);
         if bad != 0 {
             return bad;
         }
-        g += 1;
+        group += 1;
     }
     0
 }

@@ -15,6 +15,9 @@ mod directory;
 mod header;
 mod records;
 
+// The most numbers that a plane has.
+const MAX_PLANE_SAMPLES: usize = 134_217_728;
+
 // The refusal of a stream, 0 for none; the coded size where there is none.
 pub struct Checked {
     pub refusal: u32,
@@ -22,15 +25,15 @@ pub struct Checked {
     pub height: usize,
 }
 
-// The part of the stream that is packet k of group g.
-pub fn packet(stream: &[u8], g: usize, k: usize) -> &[u8]
-    requires { ⌜ (128 ≤ length (now stream)) × (g < 5) × (k < 16) × (packetStart (now stream) g k + packetLength (now stream) g k ≤ length (now stream)) ⌝ }
-    ensures { λ r. ⌜ now r ≡ packetOf (now (stream .entry)) g k ⌝ }
+// The packet of an index in a group: a part of the stream itself.
+pub fn packet(stream: &[u8], group: usize, index: usize) -> &[u8]
+    requires { ⌜ (128 ≤ length (now stream)) × (group < 5) × (index < 16) × (packetStart (now stream) group index + packetLength (now stream) group index ≤ length (now stream)) ⌝ }
+    ensures { λ r. ⌜ now r ≡ packetOf (now (stream .entry)) group index ⌝ }
 {
     part(
         stream,
-        directory::packet_start(stream, g, k),
-        directory::packet_length(stream, g, k),
+        directory::packet_start(stream, group, index),
+        directory::packet_length(stream, group, index),
     )
 }
 
@@ -43,6 +46,7 @@ fn part(stream: &[u8], start: usize, n: usize) -> &[u8]
     &stream[start..end]
 }
 
+// The coded height: twice the half height.
 fn coded_height(stream: &[u8]) -> usize
     requires { ⌜ 128 ≤ length (now stream) ⌝ }
     ensures { λ r. ⌜ (r ≡ codedHeight (now (stream .entry))) × (r < 2 ^ 17) ⌝ }
@@ -51,33 +55,33 @@ fn coded_height(stream: &[u8]) -> usize
 }
 
 // Groups 1 to 3.
-fn is_detail(g: usize) -> bool
-    ensures { λ r. ⌜ r ≡ isDetail (groupOf g) ⌝ }
+fn is_detail(group: usize) -> bool
+    ensures { λ r. ⌜ r ≡ isDetail (groupOf group) ⌝ }
 {
-    if g < 1 {
+    if group < 1 {
         return false;
     }
-    g <= 3
+    group <= 3
 }
 
 // Kind 3 in group 0 or 4.
-fn three_in_one(kind: usize, g: usize) -> bool
-    ensures { λ r. ⌜ r ≡ (eqb kind 3 && not (isDetail (groupOf g))) ⌝ }
+fn three_outside_detail(kind: usize, group: usize) -> bool
+    ensures { λ r. ⌜ r ≡ (eqb kind 3 && not (isDetail (groupOf group))) ⌝ }
 {
     if kind != 3 {
         return false;
     }
-    !is_detail(g)
+    !is_detail(group)
 }
 
 // Kind 1 in groups 1 to 3.
-fn one_in_three(kind: usize, g: usize) -> bool
-    ensures { λ r. ⌜ r ≡ (eqb kind 1 && isDetail (groupOf g)) ⌝ }
+fn one_in_detail(kind: usize, group: usize) -> bool
+    ensures { λ r. ⌜ r ≡ (eqb kind 1 && isDetail (groupOf group)) ⌝ }
 {
     if kind != 1 {
         return false;
     }
-    is_detail(g)
+    is_detail(group)
 }
 
 // Neither n + 1 records nor, guarded, one fewer.
@@ -97,12 +101,12 @@ fn wrong_count(height: usize, count: usize) -> bool
     count != n
 }
 
-// A packet in its tile, of coded height H, in group g, of a stream of n bytes.
-fn check_in_tile(kind: usize, count: usize, g: usize, height: usize, n: usize) -> u32
+// A packet of a kind and a block count in its tile: the group, the coded height, the length of the stream.
+fn check_in_tile(kind: usize, count: usize, group: usize, height: usize, n: usize) -> u32
     requires { ⌜ height < 2 ^ 17 ⌝ }
-    ensures { λ r. ⌜ r ≡ tileRefusal kind count (groupOf g) height n ⌝ }
+    ensures { λ r. ⌜ r ≡ tileRefusal kind count (groupOf group) height n ⌝ }
 {
-    if three_in_one(kind, g) {
+    if three_outside_detail(kind, group) {
         return 19;
     }
     if 32767 < height {
@@ -114,18 +118,18 @@ fn check_in_tile(kind: usize, count: usize, g: usize, height: usize, n: usize) -
     if n / 16 + 1 < count {
         return 22;
     }
-    if one_in_three(kind, g) {
+    if one_in_detail(kind, group) {
         return 23;
     }
     0
 }
 
-// Entry k of group g.
-fn check_entry(stream: &[u8], g: usize, k: usize) -> u32
-    requires { ⌜ (128 ≤ length (now stream)) × (g < 5) × (k < 16) × (directoryRefusal (now stream) ≡ 0) ⌝ }
-    ensures { λ r. ⌜ r ≡ entryCheck (now (stream .entry)) (groupOf g) k ⌝ }
+// The entry of an index in a group, and its packet.
+fn check_entry(stream: &[u8], group: usize, index: usize) -> u32
+    requires { ⌜ (128 ≤ length (now stream)) × (group < 5) × (index < 16) × (directoryRefusal (now stream) ≡ 0) ⌝ }
+    ensures { λ r. ⌜ r ≡ entryCheck (now (stream .entry)) (groupOf group) index ⌝ }
 {
-    let directory::DirEntry::At(start, n) = directory::find_entry(stream, g, k) else {
+    let directory::DirEntry::At(start, n) = directory::find_entry(stream, group, index) else {
         return 9;
     };
     let found = part(stream, start, n);
@@ -136,7 +140,7 @@ fn check_entry(stream: &[u8], g: usize, k: usize) -> u32
     check_in_tile(
         field(found, 48, 2),
         field(found, 56, 16),
-        g,
+        group,
         coded_height(stream),
         stream.len(),
     )
@@ -185,6 +189,7 @@ fn check_packets(stream: &[u8]) -> u32
     check_entry(stream, 4, 0)
 }
 
+// The rows of the planes.
 fn plane_rows(height: usize) -> usize
     requires { ⌜ height < 2 ^ 17 ⌝ }
     ensures { λ r. ⌜ (r ≡ planeRowsOf height) × (r < 2 ^ 17) ⌝ }
@@ -194,14 +199,14 @@ fn plane_rows(height: usize) -> usize
     if rest == 0 { 8 * n } else { 8 * n - 4 }
 }
 
-// The lengths of the lent slices.
+// The size of the planes, and the lengths of the lent slices.
 fn check_lent(w: usize, height: usize, green: usize, red: usize, blue: usize, work: usize) -> u32
     requires { ⌜ (w < 2 ^ 16) × (height < 2 ^ 17) ⌝ }
     ensures { λ r. ⌜ r ≡ lentRefusal w height green red blue work ⌝ }
 {
     let n = plane_rows(height);
     let full = n * w;
-    if 134217728 < full {
+    if MAX_PLANE_SAMPLES < full {
         return 3;
     }
     if green < full {

@@ -1,36 +1,28 @@
 // A packet's header and its records: document 01, 'Directory and packets'.
 ghost use mathlib.Core.Path.{_≡_};
 ghost use Prim.Native.Nat.{_+_, _*_, _^_, _<_, _≤_};
-ghost use mathlib.Core.Bool.{_||_};
+ghost use mathlib.Core.Bool.{not, _||_};
 ghost use lib.ListN.{length};
-ghost use lib.Dec.{eqb};
-ghost use Rattle.format.specs.Packets.{blocks};
+ghost use lib.Dec.{ltb, eqb};
+ghost use Rattle.format.specs.Packets.{tag, zero4, zero6, blocks, marker, zero8, sizeOf};
 ghost use Rattle.format.specs.Refusals.{each, recordRefusal, packetRefusal};
-ghost use Rattle.packets.specs.Answers.{marksRefusal, countsRefusal, sizeRefusal};
 use words::field;
 
-// Padding, tag and the first zeros.
-fn check_marks(packet: &[u8]) -> u32
+// Tag not 4, or one of the zeros after it not 0.
+fn wrong_tag(packet: &[u8]) -> bool
     requires { ⌜ 16 ≤ length (now packet) ⌝ }
-    ensures { λ r. ⌜ r ≡ marksRefusal (now (packet .entry)) ⌝ }
+    ensures { λ r. ⌜ r ≡ (not (eqb (tag (now (packet .entry))) 4) || not (eqb (zero4 (now (packet .entry))) 0) || not (eqb (zero6 (now (packet .entry))) 0)) ⌝ }
 {
-    let padding = field(packet, 88, 40);
-    if padding != 0 {
-        return 12;
-    }
     let tag = field(packet, 40, 4);
     if tag != 4 {
-        return 13;
+        return true;
     }
     let zero4 = field(packet, 44, 4);
     if zero4 != 0 {
-        return 13;
+        return true;
     }
     let zero6 = field(packet, 50, 6);
-    if zero6 != 0 {
-        return 13;
-    }
-    0
+    zero6 != 0
 }
 
 // Kinds are 1 and 3.
@@ -43,43 +35,35 @@ fn known_kind(kind: usize) -> bool
     kind == 3
 }
 
-// Kind and block count.
-fn check_counts(packet: &[u8]) -> u32
-    requires { ⌜ 16 ≤ length (now packet) ⌝ }
-    ensures { λ r. ⌜ r ≡ countsRefusal (now (packet .entry)) ⌝ }
+// A block count of 0 or above 30,000.
+fn wrong_blocks(count: usize) -> bool
+    ensures { λ r. ⌜ r ≡ (eqb count 0 || ltb 30000 count) ⌝ }
 {
-    if !known_kind(field(packet, 48, 2)) {
-        return 14;
+    if count == 0 {
+        return true;
     }
-    let blocks = field(packet, 56, 16);
-    if blocks == 0 {
-        return 15;
-    }
-    if 30000 < blocks {
-        return 15;
-    }
-    0
+    30000 < count
 }
 
-// Marker, its zeros and the size.
-fn check_size(packet: &[u8]) -> u32
+// Marker not 16, or the zeros after it not 0.
+fn wrong_marker(packet: &[u8]) -> bool
     requires { ⌜ 16 ≤ length (now packet) ⌝ }
-    ensures { λ r. ⌜ r ≡ sizeRefusal (now (packet .entry)) ⌝ }
+    ensures { λ r. ⌜ r ≡ (not (eqb (marker (now (packet .entry))) 16) || not (eqb (zero8 (now (packet .entry))) 0)) ⌝ }
 {
     let marker = field(packet, 72, 8);
     if marker != 16 {
-        return 16;
+        return true;
     }
     let zero8 = field(packet, 80, 8);
-    if zero8 != 0 {
-        return 16;
-    }
-    let size = (field(packet, 0, 16) + 1 + field(packet, 16, 24)) * 16;
-    let n = packet.len();
-    if size != n {
-        return 17;
-    }
-    0
+    zero8 != 0
+}
+
+// The size that the header gives, in bytes.
+fn size_of(packet: &[u8]) -> usize
+    requires { ⌜ 16 ≤ length (now packet) ⌝ }
+    ensures { λ r. ⌜ (r ≡ sizeOf (now (packet .entry))) × (r < 2 ^ 29) ⌝ }
+{
+    (field(packet, 0, 16) + 1 + field(packet, 16, 24)) * 16
 }
 
 // The bit at which the header of record i starts, of a packet of a kind.
@@ -120,17 +104,24 @@ pub fn parse_packet(packet: &[u8]) -> u32
     if packet.len() < 16 {
         return 10;
     }
-    let a = check_marks(packet);
-    if a != 0 {
-        return a;
+    let padding = field(packet, 88, 40);
+    if padding != 0 {
+        return 12;
     }
-    let b = check_counts(packet);
-    if b != 0 {
-        return b;
+    if wrong_tag(packet) {
+        return 13;
     }
-    let c = check_size(packet);
-    if c != 0 {
-        return c;
+    if !known_kind(field(packet, 48, 2)) {
+        return 14;
+    }
+    if wrong_blocks(field(packet, 56, 16)) {
+        return 15;
+    }
+    if wrong_marker(packet) {
+        return 16;
+    }
+    if size_of(packet) != packet.len() {
+        return 17;
     }
     check_records(packet)
 }

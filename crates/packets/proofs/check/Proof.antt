@@ -4,7 +4,7 @@ use native.Mathlib.Omega.{arith}
 use borrow.Author.Needs.{needs}
 use borrow.Author.Tests.{ne-eqb}
 use Rattle.packets.specs.Answers.{checkedOf}
-use Rattle.packets.proofs.Laws.{refusal-long}
+use Rattle.format.proofs.DirectoryLaws.{refusal-long}
 use Rattle.packets.proofs.check.Statement.{statement}
 use Rattle.packets.proofs.check.Tie as tie
 
@@ -12,9 +12,29 @@ returns : tie.Need-returns
 unfolding checkedOf
 returns c = simp (← (c .before .first-refusal .ensures), ne-eqb _ _ (c .if1 .taken))
 
+field-requires : tie.Need-field-requires
+unfolding checkedOf
+field-requires c κs =
+    let a = c .before .before .before .args in
+    let none = sym (c .before .first-refusal .ensures) ∙ c .if1 .left in
+    (omega (arith, refusal-long (a .stream .now) (a .green) (a .red) (a .blue) (a .work) none), omega arith)
+
+coded-height-requires : tie.Need-coded-height-requires
+unfolding checkedOf
+coded-height-requires c κs =
+    let a = c .before .before .before .before .args in
+    let none = sym (c .before .before .first-refusal .ensures) ∙ c .before .if1 .left in
+    refusal-long (a .stream .now) (a .green) (a .red) (a .blue) (a .work) none
+
 returns-2 : tie.Need-returns-2
 unfolding checkedOf
-returns-2 c = simp (← (c .before .before .before .first-refusal .ensures), c .before .before .if1 .left, ← (c .before .field .ensures .0), ← (c .coded-height .ensures .0))
+returns-2 c =
+    simp (
+      ← (c .before .before .before .first-refusal .ensures),
+      c .before .before .if1 .left,
+      ← (c .before .field .ensures .0),
+      ← (c .coded-height .ensures .0),
+    )
 
 pub check-spec : {M : Type 1} → statement M
 check-spec =
@@ -22,6 +42,6 @@ check-spec =
     (tie.spec
     (λ c κs. search needs)
     returns
-    (λ c κs. (omega (arith, refusal-long (c .before .before .before .args .stream .now) (c .before .before .before .args .green) (c .before .before .before .args .red) (c .before .before .before .args .blue) (c .before .before .before .args .work) (sym (c .before .first-refusal .ensures) ∙ c .if1 .left)), omega arith))
-    (λ c κs. refusal-long (c .before .before .before .before .args .stream .now) (c .before .before .before .before .args .green) (c .before .before .before .before .args .red) (c .before .before .before .before .args .blue) (c .before .before .before .before .args .work) (sym (c .before .before .first-refusal .ensures) ∙ c .before .if1 .left))
+    field-requires
+    coded-height-requires
     returns-2)

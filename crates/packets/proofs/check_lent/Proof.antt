@@ -4,7 +4,7 @@ use native.Mathlib.Omega.{arith}
 use borrow.Author.Needs.{needs}
 use borrow.Author.Tests.{lt-ltb, le-ltb}
 use Rattle.format.specs.Refusals.{lentRefusal}
-use Rattle.packets.proofs.Laws.{product}
+use Rattle.packets.proofs.AnswerLaws.{product}
 use Rattle.packets.proofs.check_lent.Statement.{statement}
 use Rattle.packets.proofs.check_lent.Tie as tie
 
@@ -18,19 +18,48 @@ returns-2 c = simp (← (c .before .before .plane-rows .ensures .0), le-ltb _ _ 
 
 returns-3 : tie.Need-returns-3
 unfolding lentRefusal
-returns-3 c = simp (← (c .before .before .before .plane-rows .ensures .0), le-ltb _ _ (c .before .before .if1 .left), le-ltb _ _ (c .before .if2 .left), lt-ltb _ _ (c .if3 .taken))
+returns-3 c =
+    simp (
+      ← (c .before .before .before .plane-rows .ensures .0),
+      le-ltb _ _ (c .before .before .if1 .left),
+      le-ltb _ _ (c .before .if2 .left),
+      lt-ltb _ _ (c .if3 .taken),
+    )
 
 returns-4 : tie.Need-returns-4
 unfolding lentRefusal
-returns-4 c = simp (← (c .before .before .before .before .plane-rows .ensures .0), le-ltb _ _ (c .before .before .before .if1 .left), le-ltb _ _ (c .before .before .if2 .left), le-ltb _ _ (c .before .if3 .left), lt-ltb _ _ (c .if4 .taken))
+returns-4 c =
+    simp (
+      ← (c .before .before .before .before .plane-rows .ensures .0),
+      le-ltb _ _ (c .before .before .before .if1 .left),
+      le-ltb _ _ (c .before .before .if2 .left),
+      le-ltb _ _ (c .before .if3 .left),
+      lt-ltb _ _ (c .if4 .taken),
+    )
 
 returns-5 : tie.Need-returns-5
 unfolding lentRefusal
-returns-5 c = simp (← (c .before .before .before .before .before .plane-rows .ensures .0), le-ltb _ _ (c .before .before .before .before .if1 .left), le-ltb _ _ (c .before .before .before .if2 .left), le-ltb _ _ (c .before .before .if3 .left), le-ltb _ _ (c .before .if4 .left), lt-ltb _ _ (c .if5 .taken))
+returns-5 c =
+    simp (
+      ← (c .before .before .before .before .before .plane-rows .ensures .0),
+      le-ltb _ _ (c .before .before .before .before .if1 .left),
+      le-ltb _ _ (c .before .before .before .if2 .left),
+      le-ltb _ _ (c .before .before .if3 .left),
+      le-ltb _ _ (c .before .if4 .left),
+      lt-ltb _ _ (c .if5 .taken),
+    )
 
 returns-6 : tie.Need-returns-6
 unfolding lentRefusal
-returns-6 c = simp (← (c .before .before .before .before .before .plane-rows .ensures .0), le-ltb _ _ (c .before .before .before .before .if1 .left), le-ltb _ _ (c .before .before .before .if2 .left), le-ltb _ _ (c .before .before .if3 .left), le-ltb _ _ (c .before .if4 .left), le-ltb _ _ (c .if5 .left))
+returns-6 c =
+    simp (
+      ← (c .before .before .before .before .before .plane-rows .ensures .0),
+      le-ltb _ _ (c .before .before .before .before .if1 .left),
+      le-ltb _ _ (c .before .before .before .if2 .left),
+      le-ltb _ _ (c .before .before .if3 .left),
+      le-ltb _ _ (c .before .if4 .left),
+      le-ltb _ _ (c .if5 .left),
+    )
 
 pub check-lent-spec : {M : Type 1} → statement M
 check-lent-spec =

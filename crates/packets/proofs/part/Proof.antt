@@ -8,7 +8,10 @@ use Rattle.packets.proofs.part.Statement.{statement}
 use Rattle.packets.proofs.part.Tie as tie
 
 returns : tie.Need-returns
-returns c = let same : (c .before .args .start + c .before .args .n) - c .before .args .start ≡ c .before .args .n = omega arith in ap (λ (k : ℕ). take k (drop (c .before .args .start) (c .before .args .stream .now))) same
+returns c =
+    let a = c .before .args in
+    let same : (a .start + a .n) - a .start ≡ a .n = omega arith in
+    ap (λ (k : ℕ). take k (drop (a .start) (a .stream .now))) same
 
 pub part-spec : {M : Type 1} → statement M
 part-spec =

@@ -3,7 +3,7 @@ use mathlib.Core.Path.{_≡_, sym}
 use Prim.Native.Nat.{_-_, _*_, _^_, _≤_}
 use native.Mathlib.Omega.{arith}
 use Rattle.format.specs.Packets.{sum, entryLength}
-use Rattle.packets.proofs.Laws.{sum-none, sum-on}
+use Rattle.format.proofs.TurnLaws.{sum-none, sum-on}
 use Rattle.packets.proofs.directory.entries.Statement.{statement}
 use Rattle.packets.proofs.directory.entries.Tie as tie
 
@@ -17,10 +17,18 @@ loop-holds : tie.Need-loop-holds Inv-loop μ-loop
 loop-holds c = (sym (sum-none (entryLength (c .before .args .stream .now) (c .before .args .at))), omega arith, omega arith)
 
 loop-again : tie.Need-loop-again Inv-loop μ-loop
-loop-again c = (simp (c .before .before .loop .inv .0, c .entry-length .ensures .0, sum-on (entryLength (c .before .before .before .before .args .stream .now) (c .before .before .before .before .args .at)) (c .before .before .loop .i)), omega arith, omega arith)
+loop-again c = (
+  simp (
+    c .before .before .loop .inv .0,
+    c .entry-length .ensures .0,
+    sum-on (entryLength (c .before .before .before .before .args .stream .now) (c .before .before .before .before .args .at)) (c .before .before .loop .i),
+  ),
+  omega arith,
+  omega arith,
+)
 
 returns : tie.Need-returns Inv-loop μ-loop
-returns c = let same : c .before .loop .i ≡ c .before .before .before .args .k = omega arith in (rw (sym same) (c .before .loop .inv .0), omega arith)
+returns c = let same : c .before .loop .i ≡ c .before .before .before .args .index = omega arith in (rw (sym same) (c .before .loop .inv .0), omega arith)
 
 pub entries-spec : {M : Type 1} → statement M
 entries-spec =

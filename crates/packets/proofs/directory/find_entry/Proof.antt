@@ -12,7 +12,14 @@ returns c = simp (← (c .before .before .block-at .ensures .0), ← (c .before 
 
 returns-2 : tie.Need-returns-2
 unfolding entryOf hasEntry
-returns-2 c = simp (← (c .before .before .before .before .block-at .ensures .0), ← (c .before .before .before .entry-count .ensures .0), lt-ltb _ _ (c .before .before .if1 .left), ← (c .before .packet-start .ensures .0), ← (c .packet-length .ensures .0))
+returns-2 c =
+    simp (
+      ← (c .before .before .before .before .block-at .ensures .0),
+      ← (c .before .before .before .entry-count .ensures .0),
+      lt-ltb _ _ (c .before .before .if1 .left),
+      ← (c .before .packet-start .ensures .0),
+      ← (c .packet-length .ensures .0),
+    )
 
 pub find-entry-spec : {M : Type 1} → statement M
 find-entry-spec =

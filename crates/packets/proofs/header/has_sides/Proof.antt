@@ -15,7 +15,13 @@ returns-2 c = simp (← (c .before .before .before .field .ensures .0), ne-eqb _
 
 returns-3 : tie.Need-returns-3
 unfolding sides
-returns-3 c = simp (← (c .before .before .before .field .ensures .0), ← (c .before .before .field2 .ensures .0), ne-eqb _ _ (c .before .if1 .left), eq-eqb _ _ (c .if2 .left))
+returns-3 c =
+    simp (
+      ← (c .before .before .before .field .ensures .0),
+      ← (c .before .before .field2 .ensures .0),
+      ne-eqb _ _ (c .before .if1 .left),
+      eq-eqb _ _ (c .if2 .left),
+    )
 
 pub has-sides-spec : {M : Type 1} → statement M
 has-sides-spec =

@@ -4,7 +4,7 @@ use Prim.Native.Nat.{_+_, _*_, _^_}
 use native.Mathlib.Omega.{arith}
 use borrow.Author.Needs.{needs}
 use Rattle.format.specs.Packets.{kind}
-use Rattle.packets.proofs.Laws.{product}
+use Rattle.packets.proofs.AnswerLaws.{product}
 use Rattle.packets.proofs.records.record_bit.Statement.{statement}
 use Rattle.packets.proofs.records.record_bit.Tie as tie
 

@@ -1,0 +1,191 @@
+//! Holds a decoder's answer for one case against the original's, and makes a failing case smaller.
+
+use crate::faults::Trial;
+use crate::oracle::{self, Answer};
+use crate::ours::{Decoded, Decoder, Slices};
+use crate::strips::Strip;
+
+/// One case of the comparison.
+#[derive(Debug, Clone, PartialEq, Eq)]
+pub enum Case {
+    Stream(Trial),
+    Strip(Strip),
+}
+
+/// What the original answers to a case.
+#[derive(Debug, Clone, Copy, PartialEq, Eq)]
+pub enum Seen {
+    Plain { stopped: usize },
+    Guarded { stopped: usize },
+    Tiles(usize),
+    Refused(u64),
+}
+
+/// The number that stands at a place of a slice before the call.
+fn pattern(slice: usize, place: usize) -> i32 {
+    let mixed = (place as u32 ^ (slice as u32) << 29).wrapping_mul(0x9e37_79b1);
+    (mixed ^ mixed >> 15) as i32 | 1
+}
+
+/// Slices of the lengths, filled with the pattern.
+fn lend(lent: [usize; 4]) -> Slices {
+    std::array::from_fn(|slice| (0..lent[slice]).map(|place| pattern(slice, place)).collect())
+}
+
+/// Compares the decoder with the original in one case; the text says where they part.
+pub fn check(decoder: &impl Decoder, case: &Case) -> Result<Seen, String> {
+    match case {
+        Case::Stream(trial) => check_stream(decoder, trial),
+        Case::Strip(strip) => check_strip(decoder, strip),
+    }
+}
+
+fn check_stream(decoder: &impl Decoder, trial: &Trial) -> Result<Seen, String> {
+    let expected = oracle::decode(&trial.stream, trial.lent);
+    let mut slices = lend(trial.lent);
+    let decoded = decoder.decode_stream(&trial.stream, &mut slices);
+    equal("answer", &decoded, &expected_answer(&expected))?;
+    let Ok(planes) = expected else {
+        check_rests(&slices, [0; 4])?;
+        return Ok(Seen::Refused(decoded.refusal));
+    };
+    let needed = planes.size.needed();
+    let names = ["green", "red", "blue"];
+    for (i, plane) in [&planes.green, &planes.red, &planes.blue].into_iter().enumerate() {
+        check_numbers(names[i], &slices[i][..needed[i]], plane)?;
+    }
+    check_numbers("work", &slices[3][..needed[3]], &vec![0; needed[3]])?;
+    check_rests(&slices, needed)?;
+    let stopped = planes.stopped;
+    Ok(if planes.size.guarded() { Seen::Guarded { stopped } } else { Seen::Plain { stopped } })
+}
+
+/// The answer that the interface gives in the original's terms.
+fn expected_answer(expected: &Answer) -> Decoded {
+    match expected {
+        Err(refusal) => Decoded { refusal: *refusal, ..Decoded::default() },
+        Ok(planes) => Decoded {
+            refusal: 0,
+            width: planes.size.width as u64,
+            height: planes.size.height() as u64,
+            rows: planes.size.rows() as u64,
+            stopped: planes.stopped as u64,
+        },
+    }
+}
+
+fn equal<T: PartialEq + std::fmt::Debug>(what: &str, found: &T, expected: &T) -> Result<(), String> {
+    match found == expected {
+        true => Ok(()),
+        false => Err(format!("{what}: ours {found:?}, the original {expected:?}")),
+    }
+}
+
+fn check_numbers(name: &str, found: &[i32], expected: &[i32]) -> Result<(), String> {
+    match found.iter().zip(expected).position(|(a, b)| a != b) {
+        None => Ok(()),
+        Some(i) => equal(&format!("{name}[{i}]"), &found[i], &expected[i]),
+    }
+}
+
+/// The elements from the given lengths on are as they were.
+fn check_rests(slices: &Slices, from: [usize; 4]) -> Result<(), String> {
+    for (s, slice) in slices.iter().enumerate() {
+        if let Some(i) = (from[s]..slice.len()).find(|&i| slice[i] != pattern(s, i)) {
+            let name = ["green", "red", "blue", "work"][s];
+            return Err(format!("{name}[{i}] was changed, though nothing is written there"));
+        }
+    }
+    Ok(())
+}
+
+fn check_strip(decoder: &impl Decoder, strip: &Strip) -> Result<Seen, String> {
+    let (bytes, frame) = (&strip.bytes, strip.frame);
+    let expected = oracle::tiles(bytes, frame);
+    equal("tile count", &decoder.tile_count(bytes, frame), &expected.len())?;
+    for (ordinal, tile) in expected.iter().enumerate() {
+        let found = std::array::from_fn(|field| decoder.tile_field(bytes, frame, ordinal, field));
+        equal(&format!("tile {ordinal}"), &found, tile)?;
+    }
+    let absent = [(expected.len(), 0), (expected.len(), 5), (usize::MAX, 1), (0, 6), (0, usize::MAX)];
+    for (ordinal, field) in absent {
+        let found = decoder.tile_field(bytes, frame, ordinal, field);
+        equal(&format!("field {field} of tile {ordinal}"), &found, &0)?;
+    }
+    Ok(if expected.is_empty() { Seen::Refused(1) } else { Seen::Tiles(expected.len()) })
+}
+
+/// Most cases that are tried to make one smaller.
+const ATTEMPTS: usize = 4000;
+
+/// Makes a failing case smaller: cuts its end and clears stretches of it as long as it still fails.
+pub fn shrink(decoder: &impl Decoder, case: &Case) -> Case {
+    let mut best = case.clone();
+    let mut attempts = 0;
+    let mut keep = |best: &mut Case, bytes: Vec<u8>| {
+        attempts += 1;
+        let smaller = best.with_bytes(bytes);
+        let fails = attempts <= ATTEMPTS && check(decoder, &smaller).is_err();
+        if fails {
+            *best = smaller;
+        }
+        fails
+    };
+    let mut step = best.bytes().len();
+    while step > 0 {
+        while best.bytes().len() >= step {
+            let shorter = best.bytes()[..best.bytes().len() - step].to_vec();
+            if !keep(&mut best, shorter) {
+                break;
+            }
+        }
+        for at in (0..best.bytes().len()).step_by(step) {
+            let mut cleared = best.bytes().to_vec();
+            let end = (at + step).min(cleared.len());
+            if cleared[at..end].iter().any(|&b| b != 0) {
+                cleared[at..end].fill(0);
+                keep(&mut best, cleared);
+            }
+        }
+        step /= 2;
+    }
+    best
+}
+
+impl Case {
+    fn bytes(&self) -> &[u8] {
+        match self {
+            Case::Stream(trial) => &trial.stream,
+            Case::Strip(strip) => &strip.bytes,
+        }
+    }
+
+    fn with_bytes(&self, bytes: Vec<u8>) -> Case {
+        match self {
+            Case::Stream(trial) => Case::Stream(Trial { stream: bytes, lent: trial.lent }),
+            Case::Strip(strip) => Case::Strip(Strip { bytes, frame: strip.frame }),
+        }
+    }
+
+    /// The case in words, without its bytes.
+    pub fn describe(&self) -> String {
+        match self {
+            Case::Stream(t) => format!(
+                "stream of {} bytes, lent green {}, red {}, blue {}, work {}",
+                t.stream.len(),
+                t.lent[0],
+                t.lent[1],
+                t.lent[2],
+                t.lent[3]
+            ),
+            Case::Strip(s) => {
+                format!("strip of {} bytes, frame {} by {}", s.bytes.len(), s.frame.0, s.frame.1)
+            }
+        }
+    }
+
+    /// Writes the case's bytes to a file.
+    pub fn write(&self, path: &str) -> std::io::Result<()> {
+        std::fs::write(path, self.bytes())
+    }
+}

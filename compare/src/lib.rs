@@ -1,0 +1,37 @@
+//! The comparison of the proved tile decoder with the original in Rust: generators of streams and
+//! strips, the original's answers in document 01's terms, and the driver that holds the library's
+//! answers against them.
+
+// The original names its core crate; here that is this crate itself.
+extern crate self as flashraw_core;
+
+#[path = "original/flashraw_core.rs"]
+mod core_stand_in;
+#[path = "original/sony_arw6.rs"]
+#[allow(dead_code)]
+#[rustfmt::skip]
+mod original;
+#[path = "original/sony_arw6_curve.rs"]
+mod sony_arw6_curve;
+
+pub use core_stand_in::{par, Error, Result};
+
+pub mod bench;
+pub mod bits;
+pub mod check;
+pub mod damage;
+pub mod encoder;
+pub mod faults;
+pub mod oracle;
+pub mod ours;
+pub mod packets;
+#[cfg(test)]
+mod points;
+pub mod records;
+pub mod rng;
+pub mod run;
+pub mod size;
+pub mod streams;
+pub mod strips;
+pub mod sweep;
+pub mod vectors;

@@ -1,0 +1,251 @@
+//! Document 01's answers, taken from the original.
+
+use crate::original::{
+    decode_component, decode_stream, find_streams, parse_directory, parse_packet, parse_stream_header,
+    CoeffBits, Packet, Plane,
+};
+use crate::size::{Shape, Size};
+use crate::streams::TILE_PACKETS;
+use crate::{Error, Result};
+
+/// The six fields of a tile, in document 01's order.
+pub type Tile = [usize; 6];
+
+/// What an accepted stream decodes to.
+#[derive(Debug, Clone, PartialEq, Eq)]
+pub struct Planes {
+    pub size: Size,
+    pub stopped: usize,
+    pub green: Vec<i32>,
+    pub red: Vec<i32>,
+    pub blue: Vec<i32>,
+}
+
+/// The answer for a stream: its planes or the number of the refusal.
+pub type Answer = std::result::Result<Planes, u64>;
+
+/// The original's error texts and document 01's numbers, one to one.
+pub const TEXTS: [(&str, u64); 21] = [
+    ("invalid stream header", 2),
+    ("directory beyond stream", 5),
+    ("directory entry count", 6),
+    ("packet beyond stream", 7),
+    ("group size mismatch", 8),
+    ("missing packet", 9),
+    ("packet too short", 10),
+    ("packet header beyond data", 11),
+    ("packet header padding", 12),
+    ("packet header tag", 13),
+    ("packet type", 14),
+    ("packet block count", 15),
+    ("packet width marker", 16),
+    ("packet size", 17),
+    ("packet record beyond packet", 18),
+    ("invalid packet type or group", 19),
+    ("coded height", 20),
+    ("packet row count", 21),
+    ("packet record count", 22),
+    ("detail packet with one component", 23),
+    ("empty lifting band", 24),
+];
+
+/// The number of an error of `decode_stream`.
+fn number(error: &Error) -> u64 {
+    let text = error.0.strip_prefix("ARW6: ").unwrap_or(&error.0);
+    match TEXTS.iter().find(|(known, _)| *known == text) {
+        Some(&(_, number)) => number,
+        None => panic!("the original refuses with a text that has no number: {text}"),
+    }
+}
+
+/// The tiles of a strip; none is refusal 1.
+pub fn tiles(strip: &[u8], frame: (usize, usize)) -> Vec<Tile> {
+    let fields = |t: &crate::original::TileStream| [t.offset, t.length, t.x, t.y, t.width, t.height];
+    find_streams(strip, frame.0, frame.1).iter().map(fields).collect()
+}
+
+/// The size in a valid header.
+pub fn header_size(stream: &[u8]) -> Option<Size> {
+    parse_stream_header(stream).map(|(width, half)| Size { width, half })
+}
+
+/// The answer for a stream with lent slices of these lengths. Numbers 3 and 4 are document 01's
+/// own and come after 2.
+pub fn decode(stream: &[u8], lent: [usize; 4]) -> Answer {
+    let size = header_size(stream).ok_or(2u64)?;
+    if size.too_large() {
+        return Err(3);
+    }
+    if size.needed().iter().zip(lent).any(|(&needed, lent)| lent < needed) {
+        return Err(4);
+    }
+    let tile = decode_stream(stream, false).map_err(|e| number(&e))?;
+    let stopped = stopped_records(stream, size).map_err(|e| number(&e))?;
+    let plane = |p: Plane, columns: usize| {
+        assert_eq!((p.rows, p.cols), (size.rows(), columns), "rows R and columns of a plane");
+        p.data
+    };
+    Ok(Planes {
+        size,
+        stopped,
+        green: plane(tile.full_green, size.width),
+        red: plane(tile.red, size.width / 2),
+        blue: plane(tile.blue, size.width / 2),
+    })
+}
+
+/// Records over the tile's 13 packets whose status at the end is not 0.
+fn stopped_records(stream: &[u8], size: Size) -> Result<usize> {
+    let directory = parse_directory(stream)?;
+    let mut stopped = 0;
+    for entry in directory.iter().filter(|e| e.index < TILE_PACKETS[e.group]) {
+        let packet = parse_packet(&stream[entry.start..entry.start + entry.length])?;
+        stopped += decode_records(&packet, size.shape(entry.group)).1;
+    }
+    Ok(stopped)
+}
+
+/// Decodes a packet record by record, as the original's `packet_planes` does: the coefficients
+/// record after record, and the count of stopped records.
+fn decode_records(packet: &Packet, shape: Shape) -> (Vec<i32>, usize) {
+    let mut coefficients = vec![0; packet.records.len() * shape.numbers()];
+    let mut stopped = 0;
+    for (record, rows) in packet.records.iter().zip(coefficients.chunks_mut(shape.numbers())) {
+        if record.byte_length == 0 {
+            continue;
+        }
+        let mut bits = CoeffBits::new(packet.data, record.payload_offset, record.byte_length);
+        for (i, row) in rows.chunks_mut(shape.columns).enumerate() {
+            let selector = record.selectors[i / shape.m] as u32;
+            decode_component(&mut bits, shape.groups(), selector, row);
+        }
+        stopped += (bits.status != 0) as usize;
+    }
+    (coefficients, stopped)
+}
+
+/// The coefficients of a packet of which `records` records are expected, 0 for those that are not
+/// there, and the count of stopped records.
+pub fn packet_coefficients(packet: &[u8], shape: Shape, records: usize) -> Result<(Vec<i32>, usize)> {
+    let (mut coefficients, stopped) = decode_records(&parse_packet(packet)?, shape);
+    coefficients.resize(records * shape.numbers(), 0);
+    Ok((coefficients, stopped))
+}
+
+#[cfg(test)]
+mod tests {
+    use super::*;
+    use crate::original::packet_planes;
+    use crate::rng::Rng;
+    use crate::streams::draw_stream;
+
+    /// Every error text of the original's source.
+    fn texts_of_the_source() -> Vec<String> {
+        let source = include_str!("original/sony_arw6.rs");
+        let mut texts: Vec<String> = Vec::new();
+        let code = source.lines().filter(|l| !l.trim_start().starts_with("//"));
+        for line in code {
+            for (i, part) in line.split('"').enumerate() {
+                let is_text = i % 2 == 1 && part.starts_with(|c: char| c.is_ascii_lowercase());
+                if is_text && !texts.iter().any(|t| t == part) {
+                    texts.push(part.to_string());
+                }
+            }
+        }
+        texts
+    }
+
+    /// Texts that no stream brings about: shapes that the sizes already rule out, the plane limit,
+    /// which number 3 comes before, and the wrapper `decode`.
+    const UNREACHED: [&str; 20] = [
+        "truncated header",
+        "plane too large",
+        "plane row count",
+        "stream too short",
+        "stream payload beyond strip",
+        "packet geometry",
+        "band-0 rows",
+        "vertical lifting shapes",
+        "horizontal lifting shapes",
+        "lifting shapes",
+        "lifting row counts",
+        "subband widths",
+        "subband rows",
+        "green detail",
+        "missing colour plane",
+        "frame size",
+        "output buffer",
+        "strip too short",
+        "no tile streams",
+        "tile plane sizes",
+    ];
+
+    #[test]
+    fn every_text_is_mapped_or_unreached() {
+        let texts = texts_of_the_source();
+        for text in &texts {
+            let mapped = TEXTS.iter().any(|(t, _)| t == text);
+            assert_ne!(mapped, UNREACHED.contains(&text.as_str()), "{text}");
+        }
+        assert!(TEXTS.iter().all(|(t, _)| texts.iter().any(|s| s == t)));
+    }
+
+    /// Without the added `pub(crate)` the file is the original, byte for byte (FNV-1a of 64 bits).
+    #[test]
+    fn the_original_is_unchanged() {
+        let text = include_str!("original/sony_arw6.rs").replace("pub(crate) ", "");
+        let mix = |hash: u64, byte: u8| (hash ^ byte as u64).wrapping_mul(0x100_0000_01b3);
+        let hash = text.bytes().fold(0xcbf2_9ce4_8422_2325, mix);
+        assert_eq!((text.len(), hash), (38700, 0x2d93_87a0_e2c6_f0d5));
+    }
+
+    #[test]
+    fn numbers_are_one_to_one() {
+        let mut numbers: Vec<u64> = TEXTS.iter().map(|&(_, n)| n).collect();
+        numbers.sort();
+        let expected: Vec<u64> = std::iter::once(2).chain(5..=24).collect();
+        assert_eq!(numbers, expected);
+    }
+
+    /// Row `y` of component `c` in record-major order.
+    fn row_of(coefficients: &[i32], shape: Shape, c: usize, y: usize) -> &[i32] {
+        let at = ((y / shape.m * shape.kind + c) * shape.m + y % shape.m) * shape.columns;
+        &coefficients[at..at + shape.columns]
+    }
+
+    #[test]
+    fn records_agree_with_packet_planes() {
+        let mut rng = Rng::new(2);
+        for _ in 0..200 {
+            let stream = draw_stream(&mut rng);
+            let (size, bytes) = (stream.size, &stream.bytes);
+            let directory = parse_directory(bytes).unwrap();
+            for group in 0..5 {
+                let planes =
+                    packet_planes(bytes, &directory, size.width, size.height(), group, 0, false).unwrap();
+                let (start, length) = stream.packets[group][0];
+                let shape = size.shape(group);
+                let packet = &bytes[start..start + length];
+                let (found, _) = packet_coefficients(packet, shape, size.n() + 1).unwrap();
+                for (c, plane) in planes.iter().enumerate() {
+                    for (y, row) in plane.data.chunks(shape.columns).enumerate() {
+                        assert_eq!(row_of(&found, shape, c, y), row);
+                    }
+                }
+            }
+        }
+    }
+
+    /// Takes some seconds and more than a gigabyte: `cargo test -- --ignored`.
+    #[test]
+    #[ignore]
+    fn the_original_refuses_what_3_does() {
+        for half in [16_376, 16_383] {
+            let size = Size { width: 8208, half };
+            assert!(size.too_large());
+            let stream = crate::faults::empty_stream(size, size.n() + 1).bytes;
+            let refused = decode_stream(&stream, false).err();
+            assert_eq!(refused, Some(Error("ARW6: plane too large".to_string())));
+        }
+    }
+}

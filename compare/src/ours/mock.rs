@@ -1,0 +1,41 @@
+//! The original behind the library's interface, so that the driver can be tested alone.
+
+use super::{Decoded, Decoder, Slices};
+use crate::oracle;
+
+pub struct Mock;
+
+impl Decoder for Mock {
+    fn tile_count(&self, strip: &[u8], frame: (usize, usize)) -> usize {
+        oracle::tiles(strip, frame).len()
+    }
+
+    fn tile_field(&self, strip: &[u8], frame: (usize, usize), ordinal: usize, field: usize) -> usize {
+        let tiles = oracle::tiles(strip, frame);
+        tiles.get(ordinal).and_then(|tile| tile.get(field)).copied().unwrap_or(0)
+    }
+
+    fn decode_stream(&self, stream: &[u8], slices: &mut Slices) -> Decoded {
+        let lent = std::array::from_fn(|i| slices[i].len());
+        match oracle::decode(stream, lent) {
+            Err(refusal) => Decoded { refusal, ..Decoded::default() },
+            Ok(planes) => write(planes, slices),
+        }
+    }
+}
+
+/// Writes the planes to the start of the slices and clears the work slice as far as it is needed.
+fn write(planes: oracle::Planes, [green, red, blue, work]: &mut Slices) -> Decoded {
+    let size = planes.size;
+    for (slice, plane) in [(green, &planes.green), (red, &planes.red), (blue, &planes.blue)] {
+        slice[..plane.len()].copy_from_slice(plane);
+    }
+    work[..size.needed()[3]].fill(0);
+    Decoded {
+        refusal: 0,
+        width: size.width as u64,
+        height: size.height() as u64,
+        rows: size.rows() as u64,
+        stopped: planes.stopped as u64,
+    }
+}

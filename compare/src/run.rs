@@ -1,0 +1,209 @@
+//! The command `run`: random cases, one table, and the smallest failing case.
+
+use crate::check::{check, shrink, Case, Seen};
+use crate::damage::{draw_damaged, draw_whole};
+use crate::oracle::TEXTS;
+use crate::ours::Decoder;
+use crate::rng::Rng;
+use crate::strips::draw_strip;
+
+/// Draws a case: whole streams, damaged streams and strips in turn.
+pub fn draw_case(rng: &mut Rng) -> Case {
+    match rng.below(10) {
+        0..=2 => Case::Stream(draw_whole(rng)),
+        3..=7 => Case::Stream(draw_damaged(rng)),
+        _ => Case::Strip(draw_strip(rng)),
+    }
+}
+
+/// The counts of a run.
+#[derive(Debug, Clone, Default)]
+pub struct Tally {
+    pub cases: usize,
+    pub plain: usize,
+    pub guarded: usize,
+    /// Accepted streams with stopped records.
+    pub stopped: usize,
+    /// Strips in which tiles were located, and those tiles.
+    pub strips: usize,
+    pub tiles: usize,
+    pub refused: [usize; 25],
+    pub mismatches: usize,
+}
+
+impl Tally {
+    fn count(&mut self, seen: Seen) {
+        match seen {
+            Seen::Plain { stopped } => {
+                self.plain += 1;
+                self.stopped += (stopped > 0) as usize;
+            }
+            Seen::Guarded { stopped } => {
+                self.guarded += 1;
+                self.stopped += (stopped > 0) as usize;
+            }
+            Seen::Tiles(count) => {
+                self.strips += 1;
+                self.tiles += count;
+            }
+            Seen::Refused(number) => self.refused[number as usize] += 1,
+        }
+    }
+
+    pub fn print(&self) {
+        let line = |what: &str, count: usize| println!("{what:<48}{count:>9}");
+        line("cases", self.cases);
+        line("streams accepted, plain", self.plain);
+        line("streams accepted, guarded", self.guarded);
+        line("  of these with stopped records", self.stopped);
+        line("strips with tiles", self.strips);
+        line("  tiles in them", self.tiles);
+        for number in 1..=24 {
+            line(&format!("refused {number:>2}  {}", refusal_name(number)), self.refused[number as usize]);
+        }
+        line("mismatches", self.mismatches);
+    }
+}
+
+/// The refusal in words: the original's text where it has one.
+fn refusal_name(number: u64) -> &'static str {
+    match number {
+        1 => "no tile located",
+        3 => "plane above 134,217,728 numbers",
+        4 => "a lent slice too short",
+        _ => TEXTS.iter().find(|t| t.1 == number).map_or("", |t| t.0),
+    }
+}
+
+/// Runs `count` random cases.
+pub fn run(decoder: &impl Decoder, seed: u64, count: usize) -> Outcome {
+    let mut seeds = Rng::new(seed);
+    check_all(decoder, (0..count).map(|_| draw_case(&mut Rng::new(seeds.word()))))
+}
+
+/// The table of a run, and the smallest failing case with what went wrong in it.
+pub type Outcome = (Tally, Option<(Case, String)>);
+
+/// Checks all cases; the first that fails is made smaller.
+pub fn check_all(decoder: &impl Decoder, cases: impl Iterator<Item = Case>) -> Outcome {
+    let mut tally = Tally::default();
+    let mut failing: Option<Case> = None;
+    for case in cases {
+        tally.cases += 1;
+        match check(decoder, &case) {
+            Ok(seen) => tally.count(seen),
+            Err(_) => {
+                tally.mismatches += 1;
+                failing.get_or_insert(case);
+            }
+        }
+    }
+    let smallest = failing.map(|case| shrink(decoder, &case));
+    let told = smallest.map(|case| {
+        let what = check(decoder, &case).err().unwrap_or_default();
+        (case, what)
+    });
+    (tally, told)
+}
+
+#[cfg(test)]
+mod tests {
+    use super::*;
+    use crate::check::{Case, Seen};
+    use crate::ours::mock::Mock;
+    use crate::ours::{Decoded, Slices};
+
+    #[test]
+    fn every_refusal_is_reached() {
+        let (tally, failing) = run(&Mock, 1, 12_000);
+        assert_eq!(failing, None);
+        assert!(tally.plain > 100 && tally.guarded > 100 && tally.stopped > 100 && tally.strips > 100);
+        for number in 1..=24 {
+            assert!(tally.refused[number] >= 10, "number {number}: {}", tally.refused[number]);
+        }
+    }
+
+    #[test]
+    fn cases_depend_on_the_seed_alone() {
+        let draw = |seed| draw_case(&mut Rng::new(seed));
+        assert!((0..50).all(|seed| draw(seed) == draw(seed)));
+        assert_ne!(draw(1), draw(2));
+    }
+
+    /// A decoder with one mistake.
+    struct Mistaken(fn(&[u8], &mut Slices, &mut Decoded));
+
+    impl Decoder for Mistaken {
+        fn tile_count(&self, strip: &[u8], frame: (usize, usize)) -> usize {
+            Mock.tile_count(strip, frame)
+        }
+
+        fn tile_field(&self, strip: &[u8], frame: (usize, usize), ordinal: usize, field: usize) -> usize {
+            Mock.tile_field(strip, frame, ordinal, field)
+        }
+
+        fn decode_stream(&self, stream: &[u8], slices: &mut Slices) -> Decoded {
+            let mut decoded = Mock.decode_stream(stream, slices);
+            (self.0)(stream, slices, &mut decoded);
+            decoded
+        }
+    }
+
+    #[test]
+    fn mistakes_are_found() {
+        let mistakes: [fn(&[u8], &mut Slices, &mut Decoded); 8] = [
+            |_, _, decoded| decoded.stopped = 0,
+            |_, _, decoded| decoded.rows = decoded.height / 2,
+            |_, _, decoded| decoded.refusal = if decoded.refusal == 11 { 18 } else { decoded.refusal },
+            |stream, _, decoded| decoded.width = (decoded.refusal == 9 && stream.len() > 8) as u64,
+            |_, slices, decoded| {
+                slices[0].iter_mut().take(1).for_each(|g| *g ^= (decoded.refusal == 0) as i32)
+            },
+            |_, slices, decoded| {
+                slices[3].iter_mut().take(1).for_each(|w| *w |= (decoded.refusal == 0) as i32)
+            },
+            |_, slices, _| slices[1].iter_mut().last().into_iter().for_each(|r| *r ^= 1),
+            |_, slices, decoded| {
+                slices[2].iter_mut().take((decoded.refusal > 0) as usize).for_each(|b| *b = 0)
+            },
+        ];
+        for (i, mistake) in mistakes.into_iter().enumerate() {
+            let (tally, failing) = run(&Mistaken(mistake), 5, 2000);
+            let (case, what) = failing.expect("the mistake shows");
+            assert!(tally.mismatches > 0 && !what.is_empty(), "mistake {i}");
+            assert!(matches!(case, Case::Stream(_)));
+        }
+    }
+
+    /// A locator that gives up when the table fails.
+    struct NoFallback;
+
+    impl Decoder for NoFallback {
+        fn tile_count(&self, strip: &[u8], frame: (usize, usize)) -> usize {
+            let by_table = strip.first().is_some_and(|&b| b > 0);
+            if by_table {
+                Mock.tile_count(strip, frame)
+            } else {
+                0
+            }
+        }
+
+        fn tile_field(&self, strip: &[u8], frame: (usize, usize), ordinal: usize, field: usize) -> usize {
+            Mock.tile_field(strip, frame, ordinal, field)
+        }
+
+        fn decode_stream(&self, stream: &[u8], slices: &mut Slices) -> Decoded {
+            Mock.decode_stream(stream, slices)
+        }
+    }
+
+    #[test]
+    fn failing_cases_are_made_smaller() {
+        let (_, failing) = run(&NoFallback, 1, 2000);
+        let (case, what) = failing.expect("the mistake shows");
+        assert_eq!(what, "tile count: ours 0, the original 1");
+        let Case::Strip(strip) = case else { panic!("a strip") };
+        assert!(strip.bytes.len() < 700);
+        assert_eq!(crate::check::check(&Mock, &Case::Strip(strip)), Ok(Seen::Tiles(1)));
+    }
+}

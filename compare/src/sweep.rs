@@ -1,0 +1,85 @@
+//! The command `sweep`: small streams and strips with every value of every byte in their heads,
+//! cut at every length, and every opening of 16 bits in a record's payload.
+
+use crate::check::Case;
+use crate::faults::Trial;
+use crate::oracle::header_size;
+use crate::packets::{packet, Record, Room};
+use crate::records::Recipe;
+use crate::rng::Rng;
+use crate::size::Size;
+use crate::streams::{assemble, draw_parts, Parts};
+use crate::strips::{draw_table_strip, edge_strips, Strip};
+
+/// Most numbers lent in the work slice; a larger stream meets slices that are too short.
+const MOST_WORK: usize = 20_000;
+
+/// All cases, in a fixed order.
+pub fn cases() -> impl Iterator<Item = Case> {
+    let streams = [(16, 16), (16, 26)].map(|(width, height)| small_parts(width, height));
+    let heads = streams.clone().into_iter().flat_map(|parts| stream_heads(assemble(&parts).bytes));
+    let ends = streams.clone().into_iter().flat_map(|parts| stream_ends(assemble(&parts).bytes));
+    let openings = streams.into_iter().flat_map(openings);
+    heads.chain(ends).chain(openings).chain(small_strips().into_iter().flat_map(strip_cases))
+}
+
+fn small_parts(width: usize, height: usize) -> Parts {
+    let size = Size { width, half: height / 2 };
+    draw_parts(&mut Rng::new(1), size, &Recipe::ordinary(2.0, 3))
+}
+
+fn stream_case(stream: Vec<u8>) -> Case {
+    Case::Stream(Trial::new(stream, &[], |stream| {
+        let fitting = header_size(stream).filter(|size| size.needed()[3] <= MOST_WORK);
+        fitting.map_or([99; 4], |size| size.needed().map(|needed| needed + 3))
+    }))
+}
+
+/// The bytes with each value at each of the places.
+fn every_value(bytes: Vec<u8>, places: impl Iterator<Item = usize>) -> impl Iterator<Item = Vec<u8>> {
+    let changed = move |at: usize, value: u8| {
+        let mut changed = bytes.clone();
+        changed[at] = value;
+        changed
+    };
+    places.flat_map(|at| (0..=255).map(move |value| (at, value))).map(move |(at, value)| changed(at, value))
+}
+
+/// Header, directory and the headers of the first packet.
+fn stream_heads(stream: Vec<u8>) -> impl Iterator<Item = Case> {
+    every_value(stream, 0..160).map(stream_case)
+}
+
+fn stream_ends(stream: Vec<u8>) -> impl Iterator<Item = Case> {
+    (0..=stream.len()).map(move |length| stream_case(stream[..length].to_vec()))
+}
+
+/// Every opening of the first record of group 4, over zeros and over other bits, with a selector
+/// and without.
+fn openings(parts: Parts) -> impl Iterator<Item = Case> {
+    let rests = [(0x00, 0), (0xb6, 1)];
+    let all = rests.into_iter().flat_map(|rest| (0..=u16::MAX).map(move |opening| (rest, opening)));
+    all.map(move |((rest, selector), opening)| {
+        let mut payload = vec![rest; 16];
+        payload[..2].copy_from_slice(&opening.to_be_bytes());
+        let mut records = vec![Record::default(); parts.size.n() + 1];
+        records[0] = Record { selectors: [selector, 0, 0], payload };
+        let mut parts = parts.clone();
+        parts.groups[4][0] = packet(1, &records, Room::default());
+        stream_case(assemble(&parts).bytes)
+    })
+}
+
+/// Document 01's example, one with a table entry for the same place, and a table of three.
+fn small_strips() -> [Strip; 3] {
+    let mut edges = edge_strips();
+    [edges.swap_remove(0), edges.swap_remove(4), draw_table_strip(&mut Rng::new(1), 3, false)]
+}
+
+/// Every value in the table's start and in the header at 512, and every length.
+fn strip_cases(strip: Strip) -> impl Iterator<Item = Case> {
+    let frame = strip.frame;
+    let lengths: Vec<Vec<u8>> = (0..=strip.bytes.len()).map(|n| strip.bytes[..n].to_vec()).collect();
+    let changed = every_value(strip.bytes, (0..32).chain(512..544));
+    changed.chain(lengths).map(move |bytes| Case::Strip(Strip { bytes, frame }))
+}

@@ -1,0 +1,182 @@
+//! The command `vectors`: fixed cases with the original's answers, in the format that README.md
+//! describes.
+
+use crate::oracle;
+use crate::packets::{packet, Room};
+use crate::records::{draw_styled, Recipe, Style};
+use crate::rng::Rng;
+use crate::size::{Shape, Size};
+use crate::streams::{assemble, draw_parts, push_directory_into_packet, Stream};
+use crate::strips::{draw_fallback_strip, draw_strip, draw_table_strip, edge_strips, Strip};
+
+mod refusals;
+#[cfg(test)]
+mod tests;
+
+/// Cases one after the other, led by their number.
+#[derive(Default)]
+struct Vectors {
+    cases: u32,
+    bytes: Vec<u8>,
+}
+
+impl Vectors {
+    /// Starts a case with its fields of fixed number.
+    fn case(&mut self, fields: &[usize]) {
+        self.cases += 1;
+        self.words(fields);
+    }
+
+    fn words(&mut self, words: &[usize]) {
+        words.iter().for_each(|&w| self.bytes.extend((w as u32).to_le_bytes()));
+    }
+
+    fn bytes(&mut self, bytes: &[u8]) {
+        self.bytes.extend(bytes);
+    }
+
+    fn numbers(&mut self, numbers: &[i32]) {
+        numbers.iter().for_each(|n| self.bytes.extend(n.to_le_bytes()));
+    }
+
+    fn finish(self) -> Vec<u8> {
+        let mut all = self.cases.to_le_bytes().to_vec();
+        all.extend(self.bytes);
+        all
+    }
+}
+
+/// The vectors of a kind, if there is such a kind.
+pub fn make(kind: &str, seed: u64) -> Option<Vec<u8>> {
+    let mut rng = Rng::new(seed);
+    let vectors = match kind {
+        "records" => records(&mut rng),
+        "refusals" => refusals::refusals(&mut rng),
+        "tiles" => tiles(&mut rng),
+        "strips" => strips(&mut rng),
+        _ => return None,
+    };
+    Some(vectors.finish())
+}
+
+fn size(width: usize, height: usize) -> Size {
+    Size { width, half: height / 2 }
+}
+
+// Strips.
+
+fn strips(rng: &mut Rng) -> Vectors {
+    let mut out = Vectors::default();
+    edge_strips().iter().for_each(|s| put_strip(&mut out, s));
+    for count in [1, 2, 3, 4, 8, 15, 16, 17] {
+        put_strip(&mut out, &draw_table_strip(rng, count, false));
+        put_strip(&mut out, &draw_table_strip(rng, count, true));
+        put_strip(&mut out, &draw_fallback_strip(rng, count));
+    }
+    for _ in 0..40 {
+        let mut strip = draw_strip(rng);
+        strip.frame = (strip.frame.0.min(65_536), strip.frame.1.min(65_536));
+        put_strip(&mut out, &strip);
+    }
+    out
+}
+
+fn put_strip(out: &mut Vectors, strip: &Strip) {
+    let tiles = oracle::tiles(&strip.bytes, strip.frame);
+    out.case(&[strip.bytes.len(), strip.frame.0, strip.frame.1, tiles.len()]);
+    out.bytes(&strip.bytes);
+    tiles.iter().for_each(|t| out.words(t));
+}
+
+// Records.
+
+fn records(rng: &mut Rng) -> Vectors {
+    let styles = [Style::Coded, Style::Empty, Style::Noise, Style::Wide, Style::Cut, Style::Same];
+    let mut out = Vectors::default();
+    for group in [0, 1, 2, 3, 4, 0, 1, 2, 3, 4] {
+        for style in styles {
+            put_records(&mut out, rng, group, style, false);
+        }
+        put_records(&mut out, rng, group, Style::Coded, true);
+        put_records(&mut out, rng, group, Style::Cut, true);
+    }
+    out
+}
+
+/// A packet of records, most of them of the style, with one record fewer than expected if so
+/// asked.
+fn put_records(out: &mut Vectors, rng: &mut Rng, group: usize, style: Style, fewer: bool) {
+    let width = rng.pick(&[[16, 48, 512], [16, 80, 256], [16, 48, 64], [16, 32, 48], [16, 32, 48]][group]);
+    let shape = size(width, 16).shape(group);
+    let recipe = Recipe { selector: rng.pick(&[0, 4, 15]), loose: true, ..Recipe::ordinary(0.0, 0) };
+    let expected = rng.within(2, 4);
+    let count = expected - fewer as usize;
+    let drawn = |rng: &mut Rng| {
+        let means = if style == Style::Cut { [40.0, 1e5, 1e5] } else { [0.3, 10.0, 1e5] };
+        let recipe = Recipe { mean: rng.pick(&means), ..recipe.clone() };
+        let style = if rng.one_in(3) { Style::Coded } else { style };
+        draw_styled(rng, shape, &recipe, style)
+    };
+    let records: Vec<_> = (0..count).map(|_| drawn(rng)).collect();
+    let control = if rng.one_in(4) { Some(1) } else { None };
+    put_packet(out, &packet(shape.kind, &records, Room { control, ..Room::default() }), shape, expected);
+}
+
+fn put_packet(out: &mut Vectors, packet: &[u8], shape: Shape, records: usize) {
+    let (coefficients, stopped) =
+        oracle::packet_coefficients(packet, shape, records).expect("the packet is well formed");
+    out.case(&[packet.len(), shape.kind, shape.m, shape.columns, records, stopped]);
+    out.bytes(packet);
+    out.numbers(&coefficients);
+}
+
+// Tiles.
+
+fn tiles(rng: &mut Rng) -> Vectors {
+    let sizes = [
+        (16, 14),
+        (16, 16),
+        (16, 26),
+        (16, 18),
+        (16, 32),
+        (16, 40),
+        (32, 16),
+        (32, 34),
+        (48, 30),
+        (64, 16),
+        (64, 18),
+    ];
+    let mut out = Vectors::default();
+    for (width, height) in sizes {
+        for (mean, selector, odd) in [(0.5, 0, 0), (30.0, 4, 3), (3000.0, 15, 4)] {
+            let recipe = Recipe { odd, fewer: 3, loose: true, ..Recipe::ordinary(mean, selector) };
+            let stream = assemble(&draw_parts(rng, size(width, height), &recipe));
+            put_tile(&mut out, &stream.bytes);
+        }
+    }
+    put_tile(&mut out, &directory_in_packet(rng).bytes);
+    out
+}
+
+/// A stream whose fifth directory block is the first packet's header, with bytes after its end.
+fn directory_in_packet(rng: &mut Rng) -> Stream {
+    let recipe = Recipe::ordinary(0.2, 2);
+    let mut parts = draw_parts(rng, size(16, 16), &recipe);
+    push_directory_into_packet(rng, &mut parts, &recipe);
+    parts.trailing = rng.bytes(5);
+    assemble(&parts)
+}
+
+fn put_tile(out: &mut Vectors, stream: &[u8]) {
+    let planes = match oracle::decode(stream, [usize::MAX; 4]) {
+        Err(refusal) => {
+            out.case(&[stream.len(), refusal as usize, 0, 0, 0, 0]);
+            return out.bytes(stream);
+        }
+        Ok(planes) => planes,
+    };
+    let size = planes.size;
+    out.case(&[stream.len(), 0, size.width, size.height(), size.rows(), planes.stopped]);
+    out.bytes(stream);
+    [&planes.green, &planes.red, &planes.blue].into_iter().for_each(|p| out.numbers(p));
+}

@@ -1,0 +1,115 @@
+-- Laws of the code's answers: groups and colours by number, entries, the answer of the check. Assumes nothing.
+use mathlib.Core.Path.{_≡_, refl, sym, ap, _∙_}
+use mathlib.Core.List.{List}
+use mathlib.Core.Bool.{Bool, true, false, not}
+use Prim.Native.Nat.{ℕ, zero, suc, _+_, _*_, _≤_, _<_}
+use native.Mathlib.Omega.{arith}
+use native.Mathlib.Nat.{mul-le-mul}
+use lib.ListN.{length, take, drop}
+use lib.Dec.{leb, eqb}
+use borrow.Author.Tests.{lt-leb, eqb-true}
+use Rattle.format.specs.Sizes.{number, index}
+use Rattle.format.specs.Strip.{width, codedHeight}
+use Rattle.format.specs.Packets.{hasEntry, packetOf, kind, blocks, packetStart, packetLength}
+use Rattle.format.specs.Refusals.{_▷_, on, isDetail, directoryRefusal, tileRefusal, entryCheck, packetRefusal, refusal, refusal}
+use Rattle.packets.specs.declared.Checked.{Checked}
+use Rattle.format.proofs.Accepted.{Accepted, accepted}
+use Rattle.packets.specs.Answers.{groupOf, colourOf, entered, entryOf, missing, checkedOf}
+use Rattle.packets.specs.declared.directory.DirEntry.{DirEntry}
+use Rattle.packets.specs.declared.directory.DirEntry.the-variants.{At, Missing}
+use Rattle.format.proofs.DirectoryLaws.{inside}
+
+pub product : (a b c d : ℕ) → a ≤ b → c ≤ d → a * c ≤ b * d
+product a b c d h k = mul-le-mul h k
+
+-- the number of the group of a number
+pub number-of : (g : ℕ) → g < 5 → number (groupOf g) ≡ g
+number-of zero h = refl
+number-of (suc zero) h = refl
+number-of (suc (suc zero)) h = refl
+number-of (suc (suc (suc zero))) h = refl
+number-of (suc (suc (suc (suc zero)))) h = refl
+number-of (suc (suc (suc (suc (suc g))))) h = absurd (omega arith)
+
+pub index-of : (i : ℕ) → i < 3 → index (colourOf i) ≡ i
+index-of zero h = refl
+index-of (suc zero) h = refl
+index-of (suc (suc zero)) h = refl
+index-of (suc (suc (suc i))) h = absurd (omega arith)
+
+pub detail-below : (g : ℕ) → g < 1 → isDetail (groupOf g) ≡ false
+detail-below zero h = refl
+detail-below (suc g) h = absurd (omega arith)
+
+pub detail-up : (g : ℕ) → 1 ≤ g → leb g 3 ≡ isDetail (groupOf g)
+detail-up zero h = absurd (omega arith)
+detail-up (suc zero) h = refl
+detail-up (suc (suc zero)) h = refl
+detail-up (suc (suc (suc zero))) h = refl
+detail-up (suc (suc (suc (suc g)))) h = lt-leb (suc (suc (suc (suc g)))) 3 (omega arith)
+
+-- ---- the entry of a group
+
+abbrev startOf : DirEntry → ℕ
+startOf (At start n) = start
+startOf Missing = 0
+
+abbrev lengthOf : DirEntry → ℕ
+lengthOf (At start n) = n
+lengthOf Missing = 0
+
+entered-at : (b : Bool) (x y start n : ℕ) → entered b x y ≡ At start n → (b ≡ true) × (x ≡ start) × (y ≡ n)
+entered-at true x y start n e = (refl, ap startOf e, ap lengthOf e)
+entered-at false x y start n e = absurd (let h : 9 ≡ 0 = ap missing e in omega (arith, h))
+
+entered-missing : (b : Bool) (x y : ℕ) → missing (entered b x y) ≡ on (not b) 9
+entered-missing true x y = refl
+entered-missing false x y = refl
+
+module _ (s : List ℕ) (g k : ℕ) where
+  -- what stands in the entry that is found
+  pub entry-at : (start n : ℕ) → entryOf s g k ≡ At start n → (hasEntry s g k ≡ true) × (packetStart s g k ≡ start) × (packetLength s g k ≡ n)
+  unfolding entryOf
+  entry-at start n e = entered-at (hasEntry s g k) (packetStart s g k) (packetLength s g k) start n e
+
+  pub packet-at : (start n : ℕ) → entryOf s g k ≡ At start n → packetOf s g k ≡ take n (drop start s)
+  unfolding packetOf
+  packet-at start n e = let is = entry-at start n e in rw (is .1, is .2) refl
+
+  -- the check of an entry, by the entry
+  pub entry-check : g < 5
+      → entryCheck s (groupOf g) k
+      ≡ (missing (entryOf s g k) ▷ packetRefusal (packetOf s g k) ▷ tileRefusal (kind (packetOf s g k)) (blocks (packetOf s g k)) (groupOf g) (codedHeight s) (length s))
+  unfolding entryCheck entryOf
+  entry-check h = rw (number-of g h, entered-missing (hasEntry s g k) (packetStart s g k) (packetLength s g k)) refl
+
+  pub found-inside : (start n : ℕ) → directoryRefusal s ≡ 0 → g < 5 → entryOf s g k ≡ At start n → start + n ≤ length s
+  found-inside start n good h e =
+      let is = entry-at start n e in
+      omega (arith, is .1, is .2, inside s g k good h (is .0))
+
+-- ---- the answer of the check
+
+checked-fields : (s : List ℕ) (k : ℕ) (b : Bool) → eqb k 0 ≡ b → checkedOf s k .refusal ≡ k
+unfolding checkedOf
+checked-fields s k true e = simp (e) (sym (eqb-true k 0 e))
+checked-fields s k false e = simp (e)
+
+pub checked-refusal : (s : List ℕ) (k : ℕ) → checkedOf s k .refusal ≡ k
+checked-refusal s k = checked-fields s k (eqb k 0) refl
+
+pub checked-size : (s : List ℕ) (k : ℕ) → k ≡ 0 → (checkedOf s k .width ≡ width s) × (checkedOf s k .height ≡ codedHeight s)
+unfolding checkedOf
+checked-size s k e = rw e (refl, refl)
+
+-- what a caller of the check learns where it refuses nothing
+pub checked-accepted : (s : List ℕ) (greenN redN blueN workN : ℕ) (c : Checked) → c ≡ checkedOf s (refusal s greenN redN blueN workN) → c .refusal ≡ 0
+    → Accepted s greenN redN blueN workN × (c .width ≡ width s) × (c .height ≡ codedHeight s)
+checked-accepted s greenN redN blueN workN c is none =
+    let k = refusal s greenN redN blueN workN in
+    let zero-is : k ≡ 0 = sym (checked-refusal s k) ∙ ap (λ (x : Checked). x .refusal) (sym is) ∙ none in
+    let sizes = checked-size s k zero-is in (
+      accepted s greenN redN blueN workN zero-is,
+      ap (λ (x : Checked). x .width) is ∙ sizes .0,
+      ap (λ (x : Checked). x .height) is ∙ sizes .1,
+    )

@@ -1,0 +1,33 @@
+//! The tiles of a strip.
+
+use crate::ffi;
+
+/// A tile stream inside the strip.
+#[derive(Debug, Clone, Copy, PartialEq, Eq)]
+pub struct TileStream {
+    pub offset: usize,
+    pub length: usize,
+    pub x: usize,
+    pub y: usize,
+    pub width: usize,
+    pub height: usize,
+}
+
+/// Locates the tile streams of a strip that covers a frame of `full_w` by `full_h`. An empty list
+/// is refusal 1.
+pub fn find_streams(strip: &[u8], full_w: usize, full_h: usize) -> Vec<TileStream> {
+    // SAFETY: the pointer and the length are those of one slice, which the calls only read.
+    let count = unsafe { ffi::arw6_tile_count(strip.as_ptr(), strip.len(), full_w, full_h) };
+    let field = |ordinal: usize, field: usize| unsafe {
+        ffi::arw6_tile_field(strip.as_ptr(), strip.len(), full_w, full_h, ordinal, field)
+    };
+    let tile = |ordinal: usize| TileStream {
+        offset: field(ordinal, 0),
+        length: field(ordinal, 1),
+        x: field(ordinal, 2),
+        y: field(ordinal, 3),
+        width: field(ordinal, 4),
+        height: field(ordinal, 5),
+    };
+    (0..count).map(tile).collect()
+}
