@@ -6,8 +6,8 @@ use lib.ListN.{length}
 use Rattle.lists.proofs.Tab.{length-part}
 use Rattle.lists.specs.Lists.{part}
 use borrow.Author.Needs.{needs}
-use Rattle.of.antt·proofs.proofs.across.Statement.{statement}
-use Rattle.of.antt·proofs.proofs.across.Tie as tie
+use Rattle.ring.proofs.across.Statement.{statement}
+use Rattle.ring.proofs.across.Tie as tie
 
 returns : tie.Need-returns
 returns c =

@@ -7,8 +7,8 @@ use Rattle.lists.proofs.Tab.{part-back, length-tab}
 use Rattle.lists.specs.Lists.{part}
 use Rattle.lifting.specs.Lift.{liftRow}
 use borrow.Author.Needs.{needs}
-use Rattle·.antt·proofs.proofs.emit.Statement.{statement}
-use Rattle·.antt·proofs.proofs.emit.Tie as tie
+use Rattle.ring.proofs.emit.Statement.{statement}
+use Rattle.ring.proofs.emit.Tie as tie
 
 returns : tie.Need-returns
 returns c =

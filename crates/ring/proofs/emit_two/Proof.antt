@@ -7,8 +7,8 @@ use Rattle.lists.proofs.Tab.{length-tab}
 use Rattle.lists.specs.Lists.{part}
 use Rattle.lifting.specs.Lift.{liftRow}
 use borrow.Author.Needs.{needs}
-use Rattle.roof.antt·proofs.proofs.emit_two.Statement.{statement}
-use Rattle.roof.antt·proofs.proofs.emit_two.Tie as tie
+use Rattle.ring.proofs.emit_two.Statement.{statement}
+use Rattle.ring.proofs.emit_two.Tie as tie
 
 returns : tie.Need-returns
 returns c =

@@ -6,8 +6,8 @@ use lib.ListN.{length}
 use Rattle.lists.proofs.Tab.{length-part}
 use Rattle.lists.specs.Lists.{part}
 use borrow.Author.Needs.{needs}
-use Rattle.roof.antt·proofs.proofs.end_half.Statement.{statement}
-use Rattle.roof.antt·proofs.proofs.end_half.Tie as tie
+use Rattle.ring.proofs.end_half.Statement.{statement}
+use Rattle.ring.proofs.end_half.Tie as tie
 
 end-row-requires : tie.Need-end-row-requires
 end-row-requires c κs =

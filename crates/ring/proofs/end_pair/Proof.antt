@@ -9,8 +9,8 @@ use Rattle.lifting.specs.Lift.{endRow}
 use Rattle.lists.proofs.Tab.{length-tab}
 use Rattle.lists.specs.Lists.{part}
 use borrow.Author.Needs.{needs}
-use Rattle.roof.antt·proofs.proofs.end_pair.Statement.{statement}
-use Rattle.roof.antt·proofs.proofs.end_pair.Tie as tie
+use Rattle.ring.proofs.end_pair.Statement.{statement}
+use Rattle.ring.proofs.end_pair.Tie as tie
 
 end-half-requires : tie.Need-end-half-requires
 end-half-requires c κs = (omega arith, omega arith, omega arith, inl (omega arith))

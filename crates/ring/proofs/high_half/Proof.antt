@@ -6,8 +6,8 @@ use lib.ListN.{length}
 use Rattle.lists.proofs.Tab.{length-part}
 use Rattle.lists.specs.Lists.{part}
 use borrow.Author.Needs.{needs}
-use Rattle.Proof.antt·proofs.proofs.high_half.Statement.{statement}
-use Rattle.Proof.antt·proofs.proofs.high_half.Tie as tie
+use Rattle.ring.proofs.high_half.Statement.{statement}
+use Rattle.ring.proofs.high_half.Tie as tie
 
 odd-row-requires : tie.Need-odd-row-requires
 odd-row-requires c κs =

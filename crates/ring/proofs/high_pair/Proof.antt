@@ -9,8 +9,8 @@ use Rattle.lists.proofs.Tab.{length-tab}
 use Rattle.lists.specs.Lists.{part}
 use Rattle.lifting.specs.Lift.{highRow}
 use borrow.Author.Needs.{needs}
-use Rattle.Proof.antt·proofs.proofs.high_pair.Statement.{statement}
-use Rattle.Proof.antt·proofs.proofs.high_pair.Tie as tie
+use Rattle.ring.proofs.high_pair.Statement.{statement}
+use Rattle.ring.proofs.high_pair.Tie as tie
 
 high-half-requires : tie.Need-high-half-requires
 high-half-requires c κs = (omega arith, (inl (omega arith), inl (omega arith)))

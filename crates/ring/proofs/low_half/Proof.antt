@@ -7,8 +7,8 @@ use Rattle.lists.proofs.Tab.{part-back, length-part, length-tab}
 use Rattle.lists.specs.Lists.{part}
 use Rattle.lifting.specs.Lift.{lowRow}
 use borrow.Author.Needs.{needs}
-use Rattle.roof.antt·proofs.proofs.low_half.Statement.{statement}
-use Rattle.roof.antt·proofs.proofs.low_half.Tie as tie
+use Rattle.ring.proofs.low_half.Statement.{statement}
+use Rattle.ring.proofs.low_half.Tie as tie
 
 returns : tie.Need-returns
 returns c =
