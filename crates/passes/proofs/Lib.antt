@@ -1,0 +1,4 @@
+pub mod PassLaws
+pub mod LeadLaws
+pub mod PlaceLaws
+pub mod Planes
