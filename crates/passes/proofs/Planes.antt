@@ -2,10 +2,12 @@
 use mathlib.Core.Path.{_≡_, refl, sym, ap, _∙_}
 use mathlib.Core.Bool.{Bool, true, false, cond}
 use mathlib.Core.List.{List, _++_}
+use mathlib.Core.Logic.{_⊎_, inl, inr, ⊎-elim}
 use Prim.Native.Nat.{ℕ, zero, suc, _+_, _-_, _*_, _/_, _%_, _≤_, _<_, min}
+use native.Mathlib.Nat.{eq-or-lt-of-le}
 use native.Mathlib.Omega.{arith}
 use lib.Dec.{eqb, ltb}
-use borrow.Author.Tests.{ltb-true, ltb-false}
+use borrow.Author.Tests.{ltb-true, ltb-false, ne-eqb}
 use lib.IntN.{ℤ, pos}
 use lib.Signed.{shrZ}
 use Rattle.wrap32.specs.Cut.{addW, subW}
@@ -111,7 +113,10 @@ module _ (c h m : ℕ) (low high : ℕ → List ℤ) (l u : Plane) (p : (y : ℕ
   high-line : h ≤ m → 1 ≤ h → (y : ℕ) → y < m → y ≤ h → vHigh c h m low high y ≡ line c (down highLeads h m l u) (2 * y)
   high-line r t zero b d =
       (λ i. endRow c (q 0 b i) (low-line r 0 t i)) ∙ up-first h m c l u
-  high-line r t (suc y) b d = by (ltb (suc y) h) refl
+  high-line r t (suc y) b d =
+      let e = ne-eqb (suc y) 0 (λ e. absurd (omega arith)) in
+      let k : suc y - 1 ≡ y = omega arith in
+      rw (e, k) (by (ltb (suc y) h) refl)
     where
       by : (s : Bool) → ltb (suc y) h ≡ s → cond s (highRow c (high (suc y)) (vLow c m low high y) (vLow c m low high (suc y))) (endRow c (high (suc y)) (vLow c m low high y)) ≡ line c (down highLeads h m l u) (2 * suc y)
       by true e =
@@ -131,20 +136,65 @@ module _ (g : Level) (m : ℕ) (w : List ℤ) (ll : Plane) (b : table.Band → P
   (p : (y : ℕ) → y < g .h → (bandRow w (g .c) (g .ll) y ≡ line (g .c) ll y) × (bandRow w (g .c) (g .hl) y ≡ line (g .c) (b hl) y))
   (q : (y : ℕ) → y < m → (bandRow w (g .c) (g .lh) y ≡ line (g .c) (b lh) y) × (bandRow w (g .c) (g .hh) y ≡ line (g .c) (b hh) y)) where
 
-  abbrev out : Lead → Plane
-  out d = level d (g .h) m (g .c) ll b
+  abbrev lo : Lead → Plane
+  lo d = down d (g .h) m ll (b lh)
 
-  abbrev pair : Lead → ℕ → List ℤ
-  pair d y = line (2 * g .c) (out d) (2 * y) ++ line (2 * g .c) (out d) (2 * y + 1)
+  abbrev hi : Lead → Plane
+  hi d = down d (g .h) m (b hl) (b hh)
 
-  pub level-flat : m ≡ g .h → rowwise.level g w ≡ flat (2 * g .h) (2 * g .c) (out lowLeads)
+  -- row y of the level, along itself
+  abbrev out : Lead → ℕ → List ℤ
+  out d = line (2 * g .c) (across (g .c) (lo d) (hi d))
+
+  across-line : (d : Lead) (y : ℕ) (u v : List ℤ) → u ≡ line (g .c) (lo d) y → v ≡ line (g .c) (hi d) y → liftRow (g .c) u v ≡ out d y
+  across-line d y u v r s = (λ i. liftRow (g .c) (r i) (s i)) ∙ across-row (g .c) (lo d) (hi d) y
+
+  pub level-flat : m ≡ g .h → rowwise.level g w ≡ flat (2 * g .h) (2 * g .c) (level lowLeads (g .h) m (g .c) ll b)
   unfolding level loE hiE loO hiO
   level-flat e =
-      let c = g .c in
-      let h = g .h in
       level-two g w
-      ∙ rows-same h (twoRows g w) (pair lowLeads)
-      (λ y s i.
-      ((λ j. liftRow c (even-line c h m _ _ ll (b lh) (λ y t. p y t .0) (λ y t. q y t .0) (omega arith) y s j) (even-line c h m _ _ (b hl) (b hh) (λ y t. p y t .1) (λ y t. q y t .1) (omega arith) y s j)) ∙ across-row c _ _ (2 * y)) i
-      ++ ((λ j. liftRow c (odd-line c h m _ _ ll (b lh) (λ y t. p y t .0) (λ y t. q y t .0) (omega arith) y s j) (odd-line c h m _ _ (b hl) (b hh) (λ y t. p y t .1) (λ y t. q y t .1) (omega arith) y s j)) ∙ across-row c _ _ (2 * y + 1)) i)
-      ∙ sym (rows-pairs h (line (2 * c) (out lowLeads)) (pair lowLeads) (λ y. refl))
+      ∙ rows-same (g .h) (twoRows g w) (λ y. out lowLeads (2 * y) ++ out lowLeads (2 * y + 1)) two
+      ∙ sym (rows-pairs (g .h) (out lowLeads) _ (λ y. refl))
+    where
+      two : (y : ℕ) → y < g .h → twoRows g w y ≡ out lowLeads (2 * y) ++ out lowLeads (2 * y + 1)
+      two y s =
+          let c = g .c in
+          let h = g .h in
+          let f = across-line lowLeads (2 * y) _ _ (even-line c h m _ _ ll (b lh) (λ y t. p y t .0) (λ y t. q y t .0) (omega arith) y s) (even-line c h m _ _ (b hl) (b hh) (λ y t. p y t .1) (λ y t. q y t .1) (omega arith) y s) in
+          let k = across-line lowLeads (2 * y + 1) _ _ (odd-line c h m _ _ ll (b lh) (λ y t. p y t .0) (λ y t. q y t .0) (omega arith) y s) (odd-line c h m _ _ (b hl) (b hh) (λ y t. p y t .1) (λ y t. q y t .1) (omega arith) y s) in
+          (λ i. f i ++ k i)
+
+  module _ (t : 1 ≤ g .h) (f : g .h ≤ m) where
+    lead-high : (y : ℕ) → y < m → y ≤ g .h → liftRow (g .c) (loH g m w y) (hiH g m w y) ≡ out highLeads (2 * y)
+    unfolding loH hiH
+    lead-high y s r =
+        let c = g .c in
+        let h = g .h in
+        across-line highLeads (2 * y) _ _ (high-line c h m _ _ ll (b lh) (λ y t. p y t .0) (λ y t. q y t .0) f t y s r) (high-line c h m _ _ (b hl) (b hh) (λ y t. p y t .1) (λ y t. q y t .1) f t y s r)
+
+    lead-low : (y : ℕ) → y < g .h → liftRow (g .c) (loL g m w y) (hiL g m w y) ≡ out highLeads (2 * y + 1)
+    unfolding loL hiL
+    lead-low y s =
+        let c = g .c in
+        let h = g .h in
+        across-line highLeads (2 * y + 1) _ _ (low-line c h m _ _ ll (b lh) (λ y t. p y t .0) (λ y t. q y t .0) f y s) (low-line c h m _ _ (b hl) (b hh) (λ y t. p y t .1) (λ y t. q y t .1) f y s)
+
+    lead-pairs : rows (g .h) (leadTwo g m w) ≡ rows (2 * g .h) (out highLeads)
+    lead-pairs =
+        rows-same (g .h) (leadTwo g m w) (λ y. out highLeads (2 * y) ++ out highLeads (2 * y + 1))
+        (λ y s i. lead-high y (omega arith) (omega arith) i ++ lead-low y s i)
+        ∙ sym (rows-pairs (g .h) (out highLeads) _ (λ y. refl))
+
+    pub leading-flat : m ≤ g .h + 1 → leading g m w ≡ flat (g .h + m) (2 * g .c) (level highLeads (g .h) m (g .c) ll b)
+    unfolding level rows
+    leading-flat e = ⊎-elim same more (eq-or-lt-of-le f)
+      where
+        same : g .h ≡ m → leading g m w ≡ rows (g .h + m) (out highLeads)
+        same r = let n : 2 * g .h ≡ g .h + m = omega arith in lead-same g m w (g .h) refl (sym r) ∙ lead-pairs ∙ ap (λ (j : ℕ). rows j (out highLeads)) n
+
+        more : g .h < m → leading g m w ≡ rows (g .h + m) (out highLeads)
+        more r =
+            let n : suc (2 * g .h) ≡ g .h + m = omega arith in
+            lead-more g m w (g .h) refl (omega arith)
+            ∙ (λ i. lead-pairs i ++ lead-high (g .h) r (omega arith) i)
+            ∙ ap (λ (j : ℕ). rows j (out highLeads)) n
