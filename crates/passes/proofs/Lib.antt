@@ -2,3 +2,4 @@ pub mod PassLaws
 pub mod LeadLaws
 pub mod PlaceLaws
 pub mod Planes
+pub mod HeldLaws

@@ -1,9 +1,12 @@
 -- Where the rows of a packet stand in the work slice, and the plane of coefficients that it holds.
+use mathlib.Core.Path.{_≡_}
+use mathlib.Core.Bool.{Bool}
 use mathlib.Core.List.{List}
-use Prim.Native.Nat.{ℕ, _+_, _*_, _/_, _%_}
+use Prim.Native.Nat.{ℕ, _+_, _*_, _/_, _%_, _^_, _≤_, _<_}
 use lib.IntN.{ℤ, pos}
 use lib.ListN.{getD}
 use Rattle.format.specs.Lifting.{Plane}
+use Rattle.format.proofs.Exact.{Tall}
 use Rattle.format.specs.Sizes.{Level, l1, l2, l3, Group, base, detail, final, multiplier, columns}
 
 -- Row r of component c in a packet that stands from `start` on, of rows of w numbers: record after record, in a record component after
@@ -35,3 +38,14 @@ rowAt w n g c r = place (packetAt w n g) (multiplier g) (components g) (columns 
 -- the coefficients of a group's component that the work slice holds
 unfoldable pub held : ℕ → ℕ → List ℤ → Group → ℕ → Plane
 held w n work g c r x = getD work (rowAt w n g c r + x) (pos 0)
+
+-- rows of c numbers that stand one after the other from `at` on
+abbrev pub readAt : List ℤ → ℕ → ℕ → Plane
+readAt work at c y x = getD work (at + (y * c + x)) (pos 0)
+
+-- a coded size that is accepted, by its width, document 01's n and whether it is guarded; 256 units can be counted
+pub record Sized (g : Bool) (w n : ℕ) : Type 0 where
+  pub whole : w % 16 ≡ 0
+  pub wide : 16 ≤ w
+  pub tall : Tall g n
+  pub small : 256 * unit w n < 2 ^ 63
