@@ -43,9 +43,10 @@ held w n work g c r x = getD work (rowAt w n g c r + x) (pos 0)
 abbrev pub readAt : List ℤ → ℕ → ℕ → Plane
 readAt work at c y x = getD work (at + (y * c + x)) (pos 0)
 
--- a coded size that is accepted, by its width, document 01's n and whether it is guarded; 256 units can be counted
+-- a coded size that is accepted, by its width, document 01's n and whether it is guarded; its work slice of 256 units can be counted
 pub record Sized (g : Bool) (w n : ℕ) : Type 0 where
   pub whole : w % 16 ≡ 0
   pub wide : 16 ≤ w
   pub tall : Tall g n
+  pub few : n < 2 ^ 32
   pub small : 256 * unit w n < 2 ^ 63

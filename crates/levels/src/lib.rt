@@ -1,0 +1,207 @@
+// The levels of one plane, from its coefficients in the work slice. Document 01, 'Synthesis'.
+use lifting::edge_row;
+use lifting::integrate_row;
+use passes::leading_in;
+use passes::plain_in;
+use passes::plain_out;
+use passes::row_at;
+use passes::Band;
+use passes::Level;
+ghost use mathlib.Core.Path.{_≡_};
+ghost use mathlib.Core.Bool.{true, false};
+ghost use Prim.Native.Nat.{_+_, _*_, _/_, _^_, _-_, _≤_, _<_};
+ghost use lib.ListN.{length};
+ghost use Rattle.lists.specs.Lists.{part, putAt};
+ghost use Rattle.format.specs.Sizes.{Colour, l1, l2, l3, columns, detail, planeRows};
+ghost use Rattle.format.specs.Table.{start, height, mode};
+ghost use Rattle.format.specs.Synthesis.{ll2, ll3, outcome, step, flat};
+ghost use Rattle.lifting.specs.Lift.{edgeRow, sumRow};
+ghost use Rattle.passes.specs.Held.{place, unit, readAt, Sized};
+ghost use Rattle.passes.specs.Level.{Lows, Highs, Sound};
+ghost use Rattle.levels.specs.Bands.{solidBand, tripleBand, strideLevel};
+ghost use Rattle.levels.specs.Levels.{coefsIn, Follows, summed, edged, Between, Edged, passed};
+
+// Component and shift of a run of rows: row y of a band is row y + shift of the component.
+pub struct Run(pub usize, pub usize);
+
+// Rows one after the other.
+fn solid(at: usize) -> Band
+    ensures { λ r. ⌜ r ≡ solidBand at ⌝ }
+{
+    Band {
+        start: at,
+        m: 1,
+        kind: 1,
+        e: 0,
+        k: 0,
+        ca: 0,
+        sa: 0,
+        cb: 0,
+        sb: 0,
+        cz: 0,
+        sz: 0,
+    }
+}
+
+// Rows of a packet of three components: run a is of those below e, run b of those below k, run z of the others.
+fn triple(at: usize, m: usize, e: usize, k: usize, a: Run, b: Run, z: Run) -> Band
+    ensures { λ r. ⌜ r ≡ tripleBand at m e k (a .0) (a .1) (b .0) (b .1) (z .0) (z .1) ⌝ }
+{
+    Band {
+        start: at,
+        m,
+        kind: 3,
+        e,
+        k,
+        ca: a.0,
+        sa: a.1,
+        cb: b.0,
+        sb: b.1,
+        cz: z.0,
+        sz: z.1,
+    }
+}
+
+// The numbers of one group's record, for each of document 01's n stripes and one more.
+fn unit_of(w: usize, n: usize) -> usize
+    requires { ⌜ (n < 2 ^ 32) × (256 * unit w n < 2 ^ 63) ⌝ }
+    ensures { λ u. ⌜ u ≡ unit w n ⌝ }
+{
+    (n + 1) * (w / 16)
+}
+
+// Plain 1.
+fn plain_1(w: usize, n: usize) -> Level
+    requires { ⌜ Sized false w n ⌝ }
+    ensures { λ r. ⌜ Follows false w n l1 r ⌝ }
+{
+    let u = unit_of(w, n);
+    let ll = solid(0);
+    let hl = triple(u, 1, 0, 0, Run(0, 0), Run(0, 0), Run(0, 0));
+    let lh = triple(u, 1, 0, n - 1, Run(1, 1), Run(1, 1), Run(0, 1));
+    let hh = triple(u, 1, 0, n - 1, Run(2, 1), Run(2, 1), Run(1, 1));
+    Level {
+        h: n,
+        c: w / 16,
+        ll,
+        hl,
+        lh,
+        hh,
+    }
+}
+
+// Plain 2 and 3, with e rows at each end.
+fn stride(h: usize, c: usize, ll: usize, at: usize, m: usize, e: usize) -> Level
+    requires { ⌜ (e ≤ h) × (e < 2 ^ 32) ⌝ }
+    ensures { λ r. ⌜ r ≡ strideLevel h c ll at m e ⌝ }
+{
+    let k = h - e;
+    let low = solid(ll);
+    let hl = triple(at, m, e, k, Run(0, 0), Run(0, e), Run(0, e));
+    let lh = triple(at, m, e, k, Run(0, e), Run(1, e), Run(0, 2 * e));
+    let hh = triple(at, m, e, k, Run(1, 0), Run(2, e), Run(1, e));
+    Level {
+        h,
+        c,
+        ll: low,
+        hl,
+        lh,
+        hh,
+    }
+}
+
+// Guarded 1.
+fn guarded_1(w: usize, n: usize) -> Level
+    requires { ⌜ Sized true w n ⌝ }
+    ensures { λ r. ⌜ Follows true w n l1 r ⌝ }
+{
+    let u = unit_of(w, n);
+    let h = n - 1;
+    let ll = solid(w / 16);
+    let hl = triple(u, 1, 0, 0, Run(0, 1), Run(0, 1), Run(0, 1));
+    let lh = triple(u, 1, 0, h, Run(1, 1), Run(1, 1), Run(0, 1));
+    let hh = triple(u, 1, 0, h, Run(2, 1), Run(2, 1), Run(1, 1));
+    Level {
+        h,
+        c: w / 16,
+        ll,
+        hl,
+        lh,
+        hh,
+    }
+}
+
+// Guarded 2.
+fn guarded_2(w: usize, n: usize) -> Level
+    requires { ⌜ Sized true w n ⌝ }
+    ensures { λ r. ⌜ Follows true w n l2 r ⌝ }
+{
+    let u = unit_of(w, n);
+    let ll = solid(64 * u);
+    let hl = triple(4 * u, 2, 0, 0, Run(0, 2), Run(0, 2), Run(0, 2));
+    let lh = triple(4 * u, 2, 1, 1, Run(0, 0), Run(1, 1), Run(1, 1));
+    let hh = triple(4 * u, 2, 1, 1, Run(0, 1), Run(2, 1), Run(2, 1));
+    Level {
+        h: 2 * n - 1,
+        c: w / 8,
+        ll,
+        hl,
+        lh,
+        hh,
+    }
+}
+
+// Guarded 3.
+fn guarded_3(w: usize, n: usize) -> Level
+    requires { ⌜ Sized true w n ⌝ }
+    ensures { λ r. ⌜ Follows true w n l3 r ⌝ }
+{
+    let u = unit_of(w, n);
+    let h = 4 * n - 2;
+    let ll = solid(68 * u);
+    let hl = triple(16 * u, 4, 1, 1, Run(0, 0), Run(0, 3), Run(0, 3));
+    let lh = triple(16 * u, 4, 1, h - 1, Run(0, 1), Run(1, 3), Run(0, 4));
+    let hh = triple(16 * u, 4, 1, h - 1, Run(0, 2), Run(2, 3), Run(0, 5));
+    Level {
+        h,
+        c: w / 4,
+        ll,
+        hl,
+        lh,
+        hh,
+    }
+}
+
+// Level 1.
+fn level_1(w: usize, n: usize, guarded: bool) -> Level
+    requires { ⌜ Sized guarded w n ⌝ }
+    ensures { λ r. ⌜ Follows guarded w n l1 r ⌝ }
+{
+    if guarded { guarded_1(w, n) } else { plain_1(w, n) }
+}
+
+// Level 2.
+fn level_2(w: usize, n: usize, guarded: bool) -> Level
+    requires { ⌜ Sized guarded w n ⌝ }
+    ensures { λ r. ⌜ Follows guarded w n l2 r ⌝ }
+{
+    if guarded {
+        guarded_2(w, n)
+    } else {
+        let u = unit_of(w, n);
+        stride(2 * n, w / 8, 64 * u, 4 * u, 2, 1)
+    }
+}
+
+// Level 3.
+fn level_3(w: usize, n: usize, guarded: bool) -> Level
+    requires { ⌜ Sized guarded w n ⌝ }
+    ensures { λ r. ⌜ Follows guarded w n l3 r ⌝ }
+{
+    if guarded {
+        guarded_3(w, n)
+    } else {
+        let u = unit_of(w, n);
+        stride(4 * n, w / 4, 68 * u, 16 * u, 4, 2)
+    }
+}
