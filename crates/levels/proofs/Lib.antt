@@ -1,1 +1,3 @@
 pub mod TableRows
+pub mod EdgeLaws
+pub mod EdgeRows

@@ -3,3 +3,4 @@ pub mod LeadLaws
 pub mod PlaceLaws
 pub mod Planes
 pub mod HeldLaws
+pub mod PutRows
