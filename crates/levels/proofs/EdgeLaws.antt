@@ -76,3 +76,13 @@ module _ (start m w c : ℕ) (odd : Bool) (work : List ℤ) (r : ℕ) where
           ∙ ap (edgeRow w odd) u
           ∙ ap (λ (j : ℕ). edgeRow w odd (part work (row j) w)) (sym q)
       by h (inr q) d = part-put-out (after k) (row k) (done k) h (row i) w w (length-done k) (g i k (λ e. absurd (omega (arith, e, q)))) ∙ d q
+
+  -- the step of a loop over the rows
+  pub edged-step : (l : List ℤ) (s : ℕ) → r ≤ s → l ≡ after (s - r) → putAt l (place start m 3 w c s) (edgeRow w odd (part l (place start m 3 w c s) w)) ≡ after (s + 1 - r)
+  edged-step l s b e =
+      let k : s ≡ r + (s - r) = omega arith in
+      let n : s + 1 - r ≡ suc (s - r) = omega arith in
+      ap (λ (t : List ℤ). putAt t (place start m 3 w c s) (edgeRow w odd (part t (place start m 3 w c s) w))) e
+      ∙ ap (λ (j : ℕ). putAt (after (s - r)) (place start m 3 w c j) (edgeRow w odd (part (after (s - r)) (place start m 3 w c j) w))) k
+      ∙ sym (edged-next (s - r))
+      ∙ ap after (sym n)

@@ -222,3 +222,12 @@ module _ (w n : ℕ) (odd : Bool) (work : List ℤ) where
 
     pub guarded3-edged : Edged true w n l3 odd work (edged (16 * unit w n) 4 (w / 4) 0 odd (edged (16 * unit w n) 4 (w / 4) 0 odd work 2 1) (4 * n - 2 + 4) 1)
     guarded3-edged = record { bands = guarded3-done; below = edges-below w n (s .whole) l3 odd 0 (omega arith) work big 2 1 (4 * n - 2 + 4) 1 (omega (arith, s .tall)) (omega (arith, s .tall)); above = edges-above w n (s .whole) l3 odd 0 (omega arith) work big 2 1 (4 * n - 2 + 4) 1 (omega (arith, s .tall)) (omega (arith, s .tall)); size = edges-length w n (s .whole) l3 odd 0 (omega arith) work big 2 1 (4 * n - 2 + 4) 1 (omega (arith, s .tall)) (omega (arith, s .tall)) }
+
+-- ---- the rows lie in the work slice
+pub packet-end : (w n : ℕ) (l : Level) → packetEnd w n l ≤ 64 * unit w n
+packet-end w n l1 = omega arith
+packet-end w n l2 = omega arith
+packet-end w n l3 = omega arith
+
+pub edge-room : (w n : ℕ) → w % 16 ≡ 0 → (l : Level) (c to size : ℕ) → size ≡ 256 * unit w n → c < 3 → to ≤ (n + 1) * multiplier (detail l) → (r : ℕ) → r < to → rowAt w n (detail l) c r + columns w (detail l) ≤ size
+edge-room w n k l c to size e a b r d = omega (arith, row-in w n k l c r a (omega arith) .1, packet-end w n l, e)

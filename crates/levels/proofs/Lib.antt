@@ -1,3 +1,4 @@
 pub mod TableRows
 pub mod EdgeLaws
 pub mod EdgeRows
+pub mod SumLaws

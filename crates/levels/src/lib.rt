@@ -9,7 +9,7 @@ use passes::Band;
 use passes::Level;
 ghost use mathlib.Core.Path.{_≡_};
 ghost use mathlib.Core.Bool.{true, false};
-ghost use Prim.Native.Nat.{_+_, _*_, _/_, _^_, _-_, _≤_, _<_};
+ghost use Prim.Native.Nat.{ℕ, _+_, _*_, _/_, _^_, _-_, _≤_, _<_};
 ghost use lib.ListN.{length};
 ghost use Rattle.lists.specs.Lists.{part, putAt};
 ghost use Rattle.format.specs.Sizes.{Colour, l1, l2, l3, columns, detail, planeRows};
@@ -203,5 +203,89 @@ fn level_3(w: usize, n: usize, guarded: bool) -> Level
     } else {
         let u = unit_of(w, n);
         stride(4 * n, w / 4, 68 * u, 16 * u, 4, 2)
+    }
+}
+
+// E along the row of c numbers at a.
+fn edge_at(work: &mut [i32], a: usize, c: usize, odd: bool)
+    requires { ⌜ a + c ≤ length (now work) ⌝ }
+    ensures { λ _. ⌜ now (work .exit) ≡ putAt (now (work .entry)) a (edgeRow c odd (part (now (work .entry)) a c)) ⌝ }
+{
+    let e = a + c;
+    edge_row(&mut work[a..e], odd);
+}
+
+// E along rows from..to of component c, in the packet of three components at `at`, of w columns.
+fn edge_rows(
+    work: &mut [i32],
+    at: usize,
+    m: usize,
+    w: usize,
+    c: usize,
+    from: usize,
+    to: usize,
+    odd: bool,
+)
+    requires { ⌜ (1 ≤ m) × (1 ≤ w) × (from ≤ to) × ((r : ℕ) → from ≤ r → r < to → place at m 3 w c r + w ≤ length (now work)) ⌝ }
+    ensures { λ _. ⌜ now (work .exit) ≡ edged at m w c odd (now (work .entry)) from (to - from) ⌝ }
+{
+    let mut r = from;
+    while r < to {
+        let a = row_at(at, m, 3, w, c, r);
+        edge_at(work, a, w, odd);
+        r += 1;
+    }
+}
+
+// E along the rows of level 2 that go in so.
+fn edges_2(work: &mut [i32], w: usize, n: usize, guarded: bool)
+    requires { ⌜ Sized guarded w n × (length (now work) ≡ 256 * unit w n) ⌝ }
+    ensures { λ _. ⌜ Edged guarded w n l2 false (now (work .entry)) (now (work .exit)) ⌝ }
+{
+    let at = 4 * unit_of(w, n);
+    let c = w / 8;
+    if guarded {
+        edge_rows(work, at, 2, c, 0, 1, 2, false);
+    } else {
+        edge_rows(work, at, 2, c, 1, 0, 1, false);
+        edge_rows(work, at, 2, c, 1, 2 * n, 2 * n + 1, false);
+    }
+}
+
+// E along the rows of level 3 that go in so.
+fn edges_3(work: &mut [i32], w: usize, n: usize, guarded: bool, odd: bool)
+    requires { ⌜ Sized guarded w n × (length (now work) ≡ 256 * unit w n) ⌝ }
+    ensures { λ _. ⌜ Edged guarded w n l3 odd (now (work .entry)) (now (work .exit)) ⌝ }
+{
+    let at = 16 * unit_of(w, n);
+    let c = w / 4;
+    if guarded {
+        let last = 4 * n - 2 + 4;
+        edge_rows(work, at, 4, c, 0, 2, 3, odd);
+        edge_rows(work, at, 4, c, 0, last, last + 1, odd);
+    } else {
+        edge_rows(work, at, 4, c, 1, 0, 2, odd);
+        edge_rows(work, at, 4, c, 1, 4 * n, 4 * n + 2, odd);
+    }
+}
+
+// The running sum along the row of c numbers at a.
+fn integrate_at(work: &mut [i32], a: usize, c: usize)
+    requires { ⌜ a + c ≤ length (now work) ⌝ }
+    ensures { λ _. ⌜ now (work .exit) ≡ putAt (now (work .entry)) a (sumRow c (part (now (work .entry)) a c)) ⌝ }
+{
+    let e = a + c;
+    integrate_row(&mut work[a..e]);
+}
+
+// Band 0: the running sums along rows from..to of c numbers.
+fn integrate(work: &mut [i32], c: usize, from: usize, to: usize)
+    requires { ⌜ (from ≤ to) × (to * c ≤ length (now work)) ⌝ }
+    ensures { λ _. ⌜ now (work .exit) ≡ summed c (now (work .entry)) from (to - from) ⌝ }
+{
+    let mut r = from;
+    while r < to {
+        integrate_at(work, r * c, c);
+        r += 1;
     }
 }
