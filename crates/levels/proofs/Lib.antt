@@ -2,3 +2,4 @@ pub mod TableRows
 pub mod EdgeLaws
 pub mod EdgeRows
 pub mod SumLaws
+pub mod Join
