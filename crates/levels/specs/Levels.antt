@@ -10,7 +10,9 @@ use Rattle.format.specs.Coefficients.{Coefs}
 use Rattle.format.specs.Sizes.{Colour, Level, l1, l2, l3, detail, columns}
 use Rattle.format.specs.Table.{start, height, highs, hl, lh, hh, source, bandRows, fromComponent, fromRow}
 use Rattle.format.specs.Table as table
-use Rattle.format.specs.Synthesis.{value}
+use Rattle.format.specs.Lifting.{Plane}
+use Rattle.format.specs.Synthesis.{value, flat, ll3}
+use Rattle.format.specs.Synthesis as synthesis
 use Rattle.lifting.specs.Lift.{edgeRow, sumRow}
 use Rattle.passes.specs.declared.Level as code
 use Rattle.passes.specs.Held.{place, unit, packetAt, rowAt, held}
@@ -72,3 +74,13 @@ pub record Edged (g : Bool) (w n : ℕ) (l : Level) (odd : Bool) (work after : L
 -- a level with either band leading
 abbrev pub passed : Bool → code.Level → ℕ → List ℤ → List ℤ
 passed leads g m work = cond leads (leading g m work) (level g work)
+
+-- a plane of h rows of c numbers stands in the work slice from `at` on
+abbrev pub Stands : List ℤ → ℕ → ℕ → ℕ → Plane → Type 0
+Stands work at h c p = part work at (h * c) ≡ flat h c p
+
+-- what level 3 is made of stands where it is looked for: its ll, and the rows of its bands with E where it goes in
+pub record Ready (g : Bool) (w n : ℕ) (i : Colour) (work after : List ℤ) : Type 0 where
+  pub lls : (y : ℕ) → y < height g n l3 → part after (llAt g w n l3 + y * (w / 4)) (w / 4) ≡ line (w / 4) (ll3 g n w i (coefsIn w n work)) y
+  pub bands : (b : table.Band) (y : ℕ) → y < bandRows (height g n l3) (height g n l3) b → part after (sourceAt g w n l3 b y) (w / 4) ≡ line (w / 4) (synthesis.bands g l3 (height g n l3) i (held w n work (detail l3)) b) y
+  pub size : length after ≡ length work

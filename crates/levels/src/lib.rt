@@ -12,14 +12,14 @@ ghost use mathlib.Core.Bool.{true, false};
 ghost use Prim.Native.Nat.{ℕ, _+_, _*_, _/_, _^_, _-_, _≤_, _<_};
 ghost use lib.ListN.{length};
 ghost use Rattle.lists.specs.Lists.{part, putAt};
-ghost use Rattle.format.specs.Sizes.{Colour, l1, l2, l3, columns, detail, planeRows};
+ghost use Rattle.format.specs.Sizes.{Colour, green, l1, l2, l3, columns, detail, planeRows};
 ghost use Rattle.format.specs.Table.{start, height, mode};
 ghost use Rattle.format.specs.Synthesis.{ll2, ll3, outcome, step, flat};
 ghost use Rattle.lifting.specs.Lift.{edgeRow, sumRow};
 ghost use Rattle.passes.specs.Held.{place, unit, readAt, Sized};
 ghost use Rattle.passes.specs.Level.{Lows, Highs, Sound};
 ghost use Rattle.levels.specs.Bands.{solidBand, tripleBand, strideLevel};
-ghost use Rattle.levels.specs.Levels.{coefsIn, Follows, summed, edged, Between, Edged, passed};
+ghost use Rattle.levels.specs.Levels.{coefsIn, Follows, summed, edged, Between, Edged, passed, Stands, Ready};
 
 // Component and shift of a run of rows: row y of a band is row y + shift of the component.
 pub struct Run(pub usize, pub usize);
@@ -288,4 +288,87 @@ fn integrate(work: &mut [i32], c: usize, from: usize, to: usize)
         integrate_at(work, r * c, c);
         r += 1;
     }
+}
+
+// A level of m rows of the high bands, into the work slice from `out` on, with the high band leading or the low one.
+fn level_in(work: &mut [i32], ring: &mut [i32], g: Level, m: usize, leads: bool, out: usize)
+    requires { ⌜ (1 ≤ g .h) × (g .h ≤ m) × (m ≤ g .h + 1) × (leads ≡ false → m ≡ g .h) × (length (now ring) ≡ 6 * g .c) × (out + (g .h + m) * (2 * g .c) ≤ length (now work)) × Lows g out × Highs g m out × Sound g ⌝ }
+    ensures { λ _. ⌜ now (work .exit) ≡ putAt (now (work .entry)) out (passed leads g m (now (work .entry))) ⌝ }
+{
+    if leads {
+        leading_in(work, ring, g, m, out);
+    } else {
+        plain_in(work, ring, g, out);
+    }
+}
+
+// Band 0's first row that goes in.
+fn start_of(guarded: bool) -> usize
+    ensures { λ r. ⌜ r ≡ start guarded ⌝ }
+{
+    if guarded { 1 } else { 0 }
+}
+
+// Band 0's sums and level 1.
+fn first_level(work: &mut [i32], ring: &mut [i32], w: usize, n: usize, guarded: bool)
+    requires { ⌜ Sized guarded w n × (length (now work) ≡ 256 * unit w n) × (length (now ring) ≡ 6 * (w / 16)) ⌝ }
+    ensures { λ _. ⌜ ((i : Colour) → Stands (now (work .exit)) (64 * unit w n) (height guarded n l2) (w / 8) (ll2 guarded n w i (coefsIn w n (now (work .entry))))) × Between (unit w n) (64 * unit w n) (now (work .exit)) (now (work .entry)) ⌝ }
+{
+    let out = 64 * unit_of(w, n);
+    integrate(work, w / 16, start_of(guarded), n);
+    let g = level_1(w, n, guarded);
+    level_in(work, ring, g, n, guarded, out);
+}
+
+// Level 2, from its ll that level 1 has left.
+fn second_level(work: &mut [i32], ring: &mut [i32], w: usize, n: usize, guarded: bool)
+    requires { ⌜ Sized guarded w n × (length (now work) ≡ 256 * unit w n) × (length (now ring) ≡ 6 * (w / 8)) ⌝ }
+    ensures { λ _. ⌜ ((i : Colour) → Stands (now (work .exit)) (68 * unit w n) (height guarded n l3) (w / 4) (step guarded n w l2 i (coefsIn w n (now (work .entry))) (readAt (now (work .entry)) (64 * unit w n) (w / 8)))) × Between (16 * unit w n) (64 * unit w n) (now (work .exit)) (now (work .entry)) ⌝ }
+{
+    let out = 68 * unit_of(w, n);
+    edges_2(work, w, n, guarded);
+    let g = level_2(w, n, guarded);
+    let h = g.h;
+    level_in(work, ring, g, h, guarded, out);
+}
+
+// Levels 1 and 2, and E on the rows of level 3.
+fn low_levels(work: &mut [i32], ring: &mut [i32], w: usize, n: usize, guarded: bool, odd: bool)
+    requires { ⌜ Sized guarded w n × (length (now work) ≡ 256 * unit w n) × (length (now ring) ≡ 6 * (w / 4)) ⌝ }
+    ensures { λ _. ⌜ ((i : Colour) → mode l3 i ≡ odd → Ready guarded w n i (now (work .entry)) (now (work .exit))) ⌝ }
+{
+    let a = 6 * (w / 16);
+    let b = 6 * (w / 8);
+    first_level(work, &mut ring[0..a], w, n, guarded);
+    second_level(work, &mut ring[0..b], w, n, guarded);
+    edges_3(work, w, n, guarded, odd);
+}
+
+// The plane of red or blue, whose coefficients the work slice holds; odd is E's mode at level 3.
+pub fn colour_plane(
+    work: &mut [i32],
+    ring: &mut [i32],
+    plane: &mut [i32],
+    w: usize,
+    n: usize,
+    guarded: bool,
+    odd: bool,
+)
+    requires { ⌜ Sized guarded w n × (length (now work) ≡ 256 * unit w n) × (length (now ring) ≡ 6 * (w / 4)) × (length (now plane) ≡ planeRows guarded n * (w / 2)) ⌝ }
+    ensures { λ _. ⌜ ((i : Colour) → mode l3 i ≡ odd → now (plane .exit) ≡ flat (planeRows guarded n) (w / 2) (outcome guarded n w i (coefsIn w n (now (work .entry))))) ⌝ }
+{
+    low_levels(work, ring, w, n, guarded, odd);
+    let g = level_3(w, n, guarded);
+    plain_out(work, ring, plane, g);
+}
+
+// Green's averages, from the coefficients that the work slice holds, into it from 84 units on.
+pub fn averages(work: &mut [i32], ring: &mut [i32], w: usize, n: usize, guarded: bool)
+    requires { ⌜ Sized guarded w n × (length (now work) ≡ 256 * unit w n) × (length (now ring) ≡ 6 * (w / 4)) ⌝ }
+    ensures { λ _. ⌜ Stands (now (work .exit)) (84 * unit w n) (planeRows guarded n) (w / 2) (outcome guarded n w green (coefsIn w n (now (work .entry)))) ⌝ }
+{
+    let out = 84 * unit_of(w, n);
+    low_levels(work, ring, w, n, guarded, false);
+    let g = level_3(w, n, guarded);
+    plain_in(work, ring, g, out);
 }
