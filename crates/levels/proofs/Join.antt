@@ -93,9 +93,8 @@ module _ (g : Bool) (w n : ℕ) (s : Sized g w n) (l : Level) (r : code.Level) (
 
 -- ---- a level whose rows stand where the table says
 module _ (g : Bool) (w n : ℕ) (l : Level) (r : code.Level) (f : Follows g w n l r) (work : List ℤ) (ll : Plane) (b : table.Band → Plane)
-  (p : (y : ℕ) → y < height g n l → part work (llAt g w n l + y * columns w (detail l)) (columns w (detail l)) ≡ line (columns w (detail l)) ll y)
-  (q : (k : table.Band) (y : ℕ) → y < bandRows (height g n l) (highs g l (height g n l)) k → part work (sourceAt g w n l k y) (columns w (detail l)) ≡ line (columns w (detail l)) (b k) y) where
-
+    (p : (y : ℕ) → y < height g n l → part work (llAt g w n l + y * columns w (detail l)) (columns w (detail l)) ≡ line (columns w (detail l)) ll y)
+    (q : (k : table.Band) (y : ℕ) → y < bandRows (height g n l) (highs g l (height g n l)) k → part work (sourceAt g w n l k y) (columns w (detail l)) ≡ line (columns w (detail l)) (b k) y) where
   abbrev cols : ℕ
   cols = columns w (detail l)
 

@@ -3,3 +3,4 @@ pub mod EdgeLaws
 pub mod EdgeRows
 pub mod SumLaws
 pub mod Join
+pub mod Lows

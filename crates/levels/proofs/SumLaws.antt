@@ -15,7 +15,7 @@ use Rattle.levels.specs.Levels.{summed}
 
 -- rows from r on, of c numbers
 module _ (c : ℕ) (work : List ℤ) (r : ℕ) where
-  abbrev sumOfRow : ℕ → List ℤ
+  abbrev pub sumOfRow : ℕ → List ℤ
   sumOfRow y = sumRow c (part work (r * c + y * c) c)
 
   pub length-sum : (y : ℕ) → length (sumOfRow y) ≡ c

@@ -82,5 +82,5 @@ Stands work at h c p = part work at (h * c) ≡ flat h c p
 -- what level 3 is made of stands where it is looked for: its ll, and the rows of its bands with E where it goes in
 pub record Ready (g : Bool) (w n : ℕ) (i : Colour) (work after : List ℤ) : Type 0 where
   pub lls : (y : ℕ) → y < height g n l3 → part after (llAt g w n l3 + y * (w / 4)) (w / 4) ≡ line (w / 4) (ll3 g n w i (coefsIn w n work)) y
-  pub bands : (b : table.Band) (y : ℕ) → y < bandRows (height g n l3) (height g n l3) b → part after (sourceAt g w n l3 b y) (w / 4) ≡ line (w / 4) (synthesis.bands g l3 (height g n l3) i (held w n work (detail l3)) b) y
+  pub bands : (b : table.Band) (y : ℕ) → y < bandRows (height g n l3) (highs g l3 (height g n l3)) b → part after (sourceAt g w n l3 b y) (w / 4) ≡ line (w / 4) (synthesis.bands g l3 (height g n l3) i (held w n work (detail l3)) b) y
   pub size : length after ≡ length work

@@ -1,12 +1,12 @@
 // The levels of one plane, from its coefficients in the work slice. Document 01, 'Synthesis'.
 use lifting::edge_row;
 use lifting::integrate_row;
+use passes::Band;
+use passes::Level;
 use passes::leading_in;
 use passes::plain_in;
 use passes::plain_out;
 use passes::row_at;
-use passes::Band;
-use passes::Level;
 ghost use mathlib.Core.Path.{_≡_};
 ghost use mathlib.Core.Bool.{true, false};
 ghost use Prim.Native.Nat.{ℕ, _+_, _*_, _/_, _^_, _-_, _≤_, _<_};
@@ -177,7 +177,11 @@ fn level_1(w: usize, n: usize, guarded: bool) -> Level
     requires { ⌜ Sized guarded w n ⌝ }
     ensures { λ r. ⌜ Follows guarded w n l1 r ⌝ }
 {
-    if guarded { guarded_1(w, n) } else { plain_1(w, n) }
+    if guarded {
+        guarded_1(w, n)
+    } else {
+        plain_1(w, n)
+    }
 }
 
 // Level 2.

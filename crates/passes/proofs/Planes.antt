@@ -133,9 +133,8 @@ rows-same (suc h) f g e = λ i. rows-same h f g (λ k b. e k (omega arith)) i ++
 
 -- ---- a level whose rows in a list are those of planes, m of the high bands
 module _ (g : Level) (m : ℕ) (w : List ℤ) (ll : Plane) (b : table.Band → Plane)
-  (p : (y : ℕ) → y < g .h → (bandRow w (g .c) (g .ll) y ≡ line (g .c) ll y) × (bandRow w (g .c) (g .hl) y ≡ line (g .c) (b hl) y))
-  (q : (y : ℕ) → y < m → (bandRow w (g .c) (g .lh) y ≡ line (g .c) (b lh) y) × (bandRow w (g .c) (g .hh) y ≡ line (g .c) (b hh) y)) where
-
+    (p : (y : ℕ) → y < g .h → (bandRow w (g .c) (g .ll) y ≡ line (g .c) ll y) × (bandRow w (g .c) (g .hl) y ≡ line (g .c) (b hl) y))
+    (q : (y : ℕ) → y < m → (bandRow w (g .c) (g .lh) y ≡ line (g .c) (b lh) y) × (bandRow w (g .c) (g .hh) y ≡ line (g .c) (b hh) y)) where
   abbrev lo : Lead → Plane
   lo d = down d (g .h) m ll (b lh)
 

@@ -5,7 +5,7 @@ use Rattle.levels.proofs.guarded_1.Statement.{statement}
 use Rattle.levels.proofs.guarded_1.Tie as tie
 
 returns : tie.Need-returns
-returns c = 
+returns c =
     let h = c .before .before .before .before in
     let s = h .before .args in
     rw (c .before .before .before .solid .ensures, c .before .before .triple .ensures, c .before .triple2 .ensures, c .triple3 .ensures, h .unit-of .ensures) (guarded1-follows (s .w) (s .n) (h .before .pre))

@@ -15,7 +15,7 @@ returns : tie.Need-returns
 returns c = rw (c .before .if1 .taken) (c .guarded-3 .ensures)
 
 returns-2 : tie.Need-returns-2
-returns-2 c = 
+returns-2 c =
     let h = c .before .before in
     let s = h .before .args in
     rw (h .if1 .left, c .stride .ensures, c .before .unit-of .ensures) (plain3-follows (s .w) (s .n) (rw (h .if1 .left) at (h .before .pre)))

@@ -4,7 +4,7 @@ use Rattle.levels.proofs.stride.Statement.{statement}
 use Rattle.levels.proofs.stride.Tie as tie
 
 returns : tie.Need-returns
-returns c = 
+returns c =
     rw (c .before .before .before .solid .ensures, c .before .before .triple .ensures, c .before .triple2 .ensures, c .triple3 .ensures)
 
 pub stride-spec : {M : Type 1} → statement M
