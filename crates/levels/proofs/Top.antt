@@ -6,7 +6,7 @@ use Prim.Native.Nat.{ℕ, zero, suc, _+_, _-_, _*_, _/_, _%_, _≤_, _<_}
 use native.Mathlib.Omega.{arith}
 use lib.IntN.{ℤ}
 use lib.ListN.{length}
-use Rattle.lists.specs.Lists.{tab, part}
+use Rattle.lists.specs.Lists.{tab, part, putAt}
 use Rattle.lists.proofs.Tab.{tab-same}
 use Rattle.format.specs.Lifting.{Plane, SameOn}
 use Rattle.format.specs.Sizes.{Colour, Level, l1, l2, l3, detail, multiplier, columns, planeRows}
@@ -21,7 +21,7 @@ use Rattle.passes.proofs.HeldLaws.{read-line}
 use Rattle.passes.proofs.Planes.{line}
 use Rattle.levels.specs.Levels.{coefsIn, sourceAt, Follows, Between, Edged, Stands, Ready}
 use Rattle.levels.proofs.Join.{rowsAfter, ll-room, passed-flat, step-same, stands-read}
-use Rattle.levels.proofs.Lows.{held-same, after-2, after-3, highs-3}
+use Rattle.levels.proofs.Lows.{held-same, after-2, after-3, highs-3, stands-put, out-room}
 
 -- the work slice as it came, and after level 1, level 2 and E on level 3's rows
 module _ (g : Bool) (w n : ℕ) (s : Sized g w n) (odd : Bool) (i : Colour) (m : mode l3 i ≡ odd) (a b c d : List ℤ) (size : length c ≡ 256 * unit w n)
@@ -75,3 +75,10 @@ plane-size g w n s r f =
     let t : w / 2 ≡ 2 * (w / 4) = omega (arith, s .whole) in
     let a : planeRows g n ≡ 2 * height g n l3 = omega (arith, after-3 g n (s .tall), highs-3 g n) in
     rw (f .rows, f .cols) (rw (t, a) (omega arith))
+
+-- or a plane in the work slice
+pub top-stands : (g : Bool) (w n : ℕ) → Sized g w n → (i : Colour) (work after last : List ℤ) → length after ≡ 256 * unit w n → Ready g w n i work after → (r : code.Level) → Follows g w n l3 r → last ≡ putAt after (84 * unit w n) (rowwise.level r after) → Stands last (84 * unit w n) (planeRows g n) (w / 2) (outcome g n w i (coefsIn w n work))
+top-stands g w n s i work after last z e r f d =
+    let t : w / 2 ≡ 2 * (w / 4) = omega (arith, s .whole) in
+    let h : planeRows g n * (w / 2) ≡ rowsAfter g n l3 * (2 * (w / 4)) = (λ j. sym (after-3 g n (s .tall)) j * t j) in
+    stands-put after last (rowwise.level r after) (84 * unit w n) (planeRows g n) (w / 2) (outcome g n w i (coefsIn w n work)) d (top-flat g w n s i work after e r f) (omega (arith, h, out-room g w n s l3, z))
