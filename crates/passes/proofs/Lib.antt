@@ -1,0 +1,6 @@
+pub mod PassLaws
+pub mod LeadLaws
+pub mod PlaceLaws
+pub mod Planes
+pub mod HeldLaws
+pub mod PutRows
