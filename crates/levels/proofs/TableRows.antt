@@ -5,12 +5,12 @@ use Prim.Native.Nat.{ℕ, zero, suc, _+_, _-_, _*_, _/_, _%_, _≤_, _<_}
 use native.Mathlib.Omega.{arith}
 use lib.Dec.{eqb, ltb}
 use borrow.Author.Tests.{eqb-true, eqb-false, ltb-true, ltb-false}
-use Rattle.format.specs.Sizes.{Level, l1, l2, l3, Group, detail, multiplier, columns}
+use Rattle.format.specs.Sizes.{Level, l1, l2, l3, Group, detail, multiplier, columns, components}
 use Rattle.format.specs.Table.{height, highs, Source, S, E, hl, lh, hh, first, middle, last, plain, source, bandRows, fromComponent, fromRow}
 use Rattle.format.specs.Table as table
 use Rattle.format.proofs.Exact.{Tall}
 use Rattle.passes.specs.declared.Band.{Band}
-use Rattle.passes.specs.Held.{place, unit, packetAt, rowAt, components, Sized}
+use Rattle.passes.specs.Held.{place, unit, packetAt, rowAt, Sized}
 use Rattle.passes.specs.Level.{pick, component, packetRow, bandAt, Whole, Sound}
 use Rattle.passes.specs.declared.Level as code
 use Rattle.passes.proofs.PlaceLaws.{place-is, band-is}

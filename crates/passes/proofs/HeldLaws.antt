@@ -13,8 +13,8 @@ use lib.ListN.{length, getD}
 use Rattle.lists.specs.Lists.{tab, part}
 use Rattle.lists.proofs.Tab.{tab-of, tab-cong, length-part, getD-part}
 use Rattle.lists.proofs.Part.{Apart}
-use Rattle.format.specs.Sizes.{Level, l1, l2, l3, Group, base, detail, final, multiplier, columns}
-use Rattle.passes.specs.Held.{place, components, unit, packetAt, rowAt, held, readAt}
+use Rattle.format.specs.Sizes.{Level, l1, l2, l3, Group, base, detail, final, multiplier, columns, components}
+use Rattle.passes.specs.Held.{place, unit, packetAt, rowAt, held, readAt}
 use Rattle.passes.proofs.PlaceLaws.{place-is}
 use Rattle.passes.proofs.Planes.{line}
 

@@ -7,18 +7,12 @@ use lib.IntN.{ℤ, pos}
 use lib.ListN.{getD}
 use Rattle.format.specs.Lifting.{Plane}
 use Rattle.format.proofs.Exact.{Tall}
-use Rattle.format.specs.Sizes.{Level, l1, l2, l3, Group, base, detail, final, multiplier, columns}
+use Rattle.format.specs.Sizes.{Level, l1, l2, l3, Group, base, detail, final, multiplier, components, columns}
 
 -- Row r of component c in a packet that stands from `start` on, of rows of w numbers: record after record, in a record component after
 -- component, m rows each
 unfoldable pub place : ℕ → ℕ → ℕ → ℕ → ℕ → ℕ → ℕ
 place start m kind w c r = start + ((r / m * kind + c) * m + r % m) * w
-
--- the components of a group's packets
-abbrev pub components : Group → ℕ
-components base = 1
-components (detail l) = 3
-components final = 1
 
 -- The work slice's parts are measured in units: a record of group 0 for each of document 01's n stripes and one more
 abbrev pub unit : ℕ → ℕ → ℕ

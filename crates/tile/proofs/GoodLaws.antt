@@ -1,9 +1,8 @@
 -- From a stream that no check refused to what decoding its packets asks and gives. Assumes nothing.
-use mathlib.Core.Path.{_≡_, refl, sym, ap, _∙_}
-use mathlib.Core.Bool.{Bool, true, false}
+use mathlib.Core.Path.{_≡_, refl, ap, _∙_}
+use mathlib.Core.Bool.{true}
 use mathlib.Core.List.{List, _++_, append-assoc}
-use mathlib.Core.Logic.{⊎-elim}
-use Prim.Native.Nat.{ℕ, zero, suc, _+_, _*_, _/_, _%_, _^_, _≤_, _<_}
+use Prim.Native.Nat.{ℕ, _+_, _*_, _/_, _%_, _≤_, _<_}
 use native.Mathlib.Nat.{zero-add}
 use native.Mathlib.Omega.{arith}
 use lib.Dec.{T}
@@ -11,22 +10,18 @@ use lib.IntN.{ℤ}
 use lib.ListN.{length, length-append}
 use Rattle.lists.specs.Lists.{putAt}
 use Rattle.lists.proofs.Part.{put-next}
-use Rattle.format.specs.Sizes.{Colour, green, index, Level, l1, l2, l3, Group, base, detail, final, number, stripes, multiplier, columns}
+use Rattle.format.specs.Sizes.{Colour, index, l1, l2, l3, Group, base, detail, final, number, stripes, multiplier, columns, components}
 use Rattle.format.specs.Strip.{width, codedHeight}
 use Rattle.format.specs.Packets.{packetOf, kind}
 use Rattle.format.specs.Coefficients.{packetValues, packetStopped, groupStopped, planeStopped}
 use Rattle.format.proofs.Exact.{Coded, levelled}
 use Rattle.packets.specs.Answers.{colourOf}
-use Rattle.packets.proofs.Accepted.{present, PacketOk}
-use Rattle.tile.specs.Held.{components, unit}
-use Rattle.tile.specs.Coefficients.{bandValues, planeValues}
-use Rattle.tile.specs.Good.{Readable, Good}
-
-pub index-colour : (k : ℕ) → k < 3 → index (colourOf k) ≡ k
-index-colour zero h = refl
-index-colour (suc zero) h = refl
-index-colour (suc (suc zero)) h = refl
-index-colour (suc (suc (suc k))) h = absurd (omega arith)
+use Rattle.packets.proofs.AnswerLaws.{index-of}
+use Rattle.format.proofs.Accepted.{present, PacketOk}
+use Rattle.passes.specs.Held.{unit}
+use Rattle.tile.specs.Coefficients.{bandValues}
+use Rattle.format.proofs.Accepted.{Good}
+use Rattle.tile.specs.Readable.{Readable}
 
 all-present : (g : Group) (i : Colour) → T (levelled g) → present g i ≡ true
 all-present base i l = refl
@@ -46,13 +41,13 @@ module _ (s : List ℕ) (good : Good s) where
         entry = h;
         within = p .within;
         bytes = p .long;
-        records = ⊎-elim (λ all. omega (arith, all, e)) (λ fewer. omega (arith, fewer .1, e)) (p .count);
+        records = omega (arith, p .few, e);
         few = omega (arith, e, good .low);
       }
 
   module _ (k : ℕ) (h : k < 3) where
     packet-ok : (g : Group) → T (levelled g) → PacketOk s g k
-    packet-ok g l = rw (index-colour k h) at (good .packets g (colourOf k) (all-present g (colourOf k) l))
+    packet-ok g l = rw (index-of k h) at (good .packets g (colourOf k) (all-present g (colourOf k) l))
 
     number-lt : (g : Group) → T (levelled g) → number g < 5
     number-lt base l = omega arith
@@ -65,23 +60,23 @@ module _ (s : List ℕ) (good : Good s) where
     readable g l n e = ok-readable g k n (omega arith) (number-lt g l) e (packet-ok g l)
 
     pub kind-of : (g : Group) → T (levelled g) → kind (packetOf s (number g) k) ≡ components g
-    kind-of base l = packet-ok base tt .components
-    kind-of (detail m) l = packet-ok (detail m) tt .components
+    kind-of base l = packet-ok base tt .kinds
+    kind-of (detail m) l = packet-ok (detail m) tt .kinds
     kind-of final l = absurd l
 
     pub kinds : (g : Group) → T (levelled g) → kind (packetOf s (number g) (index (colourOf k))) ≡ components g
-    kinds g l = rw (index-colour k h) (kind-of g l)
+    kinds g l = rw (index-of k h) (kind-of g l)
 
     pub band-is : (g : Group) → packetValues (packetOf s (number g) k) (multiplier g) (columns (width s) g) (stripes (codedHeight s) + 1) ≡ bandValues s g (colourOf k)
     unfolding bandValues
-    band-is g = rw (index-colour k h)
+    band-is g = rw (index-of k h)
 
     pub band-at : (w n : ℕ) → w ≡ width s → n ≡ stripes (codedHeight s) → (g : Group) → packetValues (packetOf s (number g) k) (multiplier g) (columns w g) (n + 1) ≡ bandValues s g (colourOf k)
     band-at w n d e g = (λ j. packetValues (packetOf s (number g) k) (multiplier g) (columns (d j) g) (e j + 1)) ∙ band-is g
 
     pub plane-stopped : packetStopped (packetOf s 0 k) 1 (width s / 16) + packetStopped (packetOf s 1 k) 1 (width s / 16) + packetStopped (packetOf s 2 k) 2 (width s / 8) + packetStopped (packetOf s 3 k) 4 (width s / 4) ≡ planeStopped s (colourOf k)
     unfolding planeStopped groupStopped
-    plane-stopped = rw (index-colour k h)
+    plane-stopped = rw (index-of k h)
 
 -- the records of groups 0 to 3 put in one after the other
 pub four-put : (l m1 m2 m3 m4 v0 v1 v2 v3 : List ℤ) (u : ℕ) → length v0 ≡ u → length v1 ≡ 3 * u → length v2 ≡ 12 * u → 64 * u ≤ length l

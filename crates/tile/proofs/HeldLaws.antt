@@ -1,8 +1,8 @@
 -- The work slice that holds a packet's records holds its coefficients. Assumes nothing.
-use mathlib.Core.Path.{_≡_, refl, sym, ap, _∙_}
+use mathlib.Core.Path.{_≡_, sym, ap, _∙_}
 use mathlib.Core.Bool.{Bool, true, false}
 use mathlib.Core.List.{List, _++_, append-assoc}
-use Prim.Native.Nat.{ℕ, zero, suc, _+_, _-_, _*_, _/_, _%_, _≤_, _<_}
+use Prim.Native.Nat.{ℕ, suc, _+_, _-_, _*_, _/_, _%_, _≤_, _<_}
 use native.Mathlib.Nat.{mul-le-mul-right, mul-assoc, add-mul, add-assoc, mod-lt, div-lt-iff-lt-mul}
 use native.Mathlib.Omega.{arith}
 use lib.Dec.{T}
@@ -11,7 +11,7 @@ use lib.ListN.{length, getD, drop, length-append}
 use lib.Seq.{take-at, drop-at}
 use Rattle.lists.specs.Lists.{part, putAt}
 use Rattle.lists.proofs.Tab.{getD-part}
-use Rattle.format.specs.Sizes.{Colour, green, red, blue, index, Level, l1, l2, l3, Group, base, detail, final, number, stripes, guarded, multiplier, columns, planeRowsOf}
+use Rattle.format.specs.Sizes.{Colour, green, red, blue, index, l1, l2, l3, Group, base, detail, final, number, stripes, guarded, multiplier, columns, planeRowsOf, components}
 use Rattle.format.specs.Strip.{width, codedHeight}
 use Rattle.format.specs.Packets.{packetOf, kind}
 use Rattle.format.specs.Coefficients.{recordValues, packetValues, coefs}
@@ -24,7 +24,7 @@ use Rattle.format.proofs.PlaceLaws.{flat-same}
 use Rattle.format.proofs.TableLaws.{source-in, chosen-in}
 use Rattle.format.proofs.Lengths.{length-packet, packet-at}
 use Rattle.format.proofs.Ranges.{multiplier-some}
-use Rattle.tile.specs.Held.{place, components, unit, packetAt, rowAt, held}
+use Rattle.passes.specs.Held.{place, unit, packetAt, held}
 use Rattle.tile.specs.Coefficients.{bandValues, planeValues}
 
 -- row t of component c in record q

@@ -1,7 +1,6 @@
 -- How many records can stop. Assumes nothing.
-use mathlib.Core.Bool.{cond}
 use mathlib.Core.List.{List}
-use Prim.Native.Nat.{ℕ, zero, suc, _+_, _^_, _≤_, _<_}
+use Prim.Native.Nat.{ℕ, zero, suc, _^_, _≤_, _<_}
 use native.Mathlib.Omega.{arith}
 use lib.Dec.{eqb}
 use Rattle.format.specs.Packets.{sum, blocks, recordLength}

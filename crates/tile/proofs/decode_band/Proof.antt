@@ -1,12 +1,11 @@
 -- `tile::decode_band` meets its contract. Assumes nothing.
 use borrow.Author.Needs.{needs}
-use mathlib.Core.Path.{_≡_, sym, _∙_}
-use mathlib.Core.List.{List}
-use Prim.Native.Nat.{ℕ, _+_, _-_, _*_}
+use mathlib.Core.Path.{_≡_, _∙_}
+use Prim.Native.Nat.{_+_, _-_}
 use native.Mathlib.Omega.{arith}
 use lib.ListN.{length}
 use Rattle.lists.proofs.Tab.{length-part, part-back}
-use Rattle.format.specs.Packets.{packetOf, kind}
+use Rattle.format.specs.Packets.{packetOf}
 use Rattle.format.specs.Coefficients.{packetValues}
 use Rattle.format.proofs.Lengths.{length-packet}
 use Rattle.tile.proofs.StoppedLaws.{stopped-lt}

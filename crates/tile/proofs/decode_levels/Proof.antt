@@ -1,10 +1,8 @@
 -- `tile::decode_levels` meets its contract. Assumes nothing.
 use borrow.Author.Needs.{needs}
 use mathlib.Core.Path.{_≡_, sym, ap, _∙_}
-use mathlib.Core.List.{List}
-use Prim.Native.Nat.{ℕ, _+_, _-_, _*_, _/_, _%_, _<_}
+use Prim.Native.Nat.{_+_, _-_, _*_, _/_, _%_}
 use native.Mathlib.Omega.{arith}
-use lib.ListN.{length}
 use Rattle.format.specs.Sizes.{l1, l2, l3, base, detail, stripes}
 use Rattle.lists.specs.Lists.{putAt}
 use Rattle.format.specs.Strip.{width, codedHeight}
