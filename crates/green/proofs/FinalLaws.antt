@@ -101,9 +101,9 @@ module _ (w : List ℤ) (b : Band) (a c r : ℕ) (l d : Plane)
         ∙ full-line c l d r (oddGreen c l d) y)
 
 -- ---- the rows of details that are used
-none : (t : Bool) → cond t 0 (cond t 0 0) ≡ 0
-none true = refl
-none false = refl
+one-of : (a : ℕ) (t : Bool) → cond t a (cond t a a) ≡ a
+one-of a true = refl
+one-of a false = refl
 
 shifted : (y k : ℕ) (t : Bool) → y + cond t 0 (cond t 0 k) ≡ cond t y (y + k)
 shifted y k true = omega arith
@@ -112,9 +112,9 @@ shifted y k false = refl
 pub detail-row : (g : Bool) (w n y : ℕ) → bandAt (detailBand (top g)) (w / 2) y ≡ rowAt w n final 0 (chosen g y)
 unfolding chosen
 detail-row false w n y =
-    band-is (detailBand 4) (w / 2) y ∙ (λ i. place 0 8 1 (w / 2) (none (ltb y 4) i) (shifted y 4 (ltb y 4) i))
+    band-is (detailBand 4) (w / 2) y ∙ (λ i. place 0 8 1 (w / 2) (one-of 0 (ltb y 4) i) (shifted y 4 (ltb y 4) i))
 detail-row true w n y =
-    band-is (detailBand 2) (w / 2) y ∙ (λ i. place 0 8 1 (w / 2) (none (ltb y 2) i) (shifted y 6 (ltb y 2) i))
+    band-is (detailBand 2) (w / 2) y ∙ (λ i. place 0 8 1 (w / 2) (one-of 0 (ltb y 2) i) (shifted y 6 (ltb y 2) i))
 
 module _ (g : Bool) (w n : ℕ) (s : Sized g w n) where
   half : w / 2 ≡ 8 * (w / 16)
