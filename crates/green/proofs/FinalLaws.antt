@@ -165,3 +165,7 @@ module _ (g : Bool) (w n : ℕ) (s : Sized g w n) where
       (λ y b. read-line work (84 * unit w n) (w / 2) y (omega (arith, average-room (suc y) b, e)))
       (λ y b. ap (λ (a : ℕ). part work a (w / 2)) (detail-row g w n y) ∙ held-line w n work final 0 (chosen g y) (omega (arith, row-room (chosen g y) (chosen-in g n (s .tall) y b), e)))
       ∙ ap (λ (j : ℕ). flat (planeRows g n) j (bothGreens (planeRows g n) (w / 2) (readAt work (84 * unit w n) (w / 2)) (λ y. held w n work final 0 (chosen g y)))) t
+
+pub top-small : (g : Bool) → top g ≤ 8
+top-small false = omega arith
+top-small true = omega arith
