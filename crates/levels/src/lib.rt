@@ -7,6 +7,7 @@ use passes::leading_in;
 use passes::plain_in;
 use passes::plain_out;
 use passes::row_at;
+use passes::unit_of;
 ghost use mathlib.Core.Path.{_≡_};
 ghost use mathlib.Core.Bool.{true, false};
 ghost use Prim.Native.Nat.{ℕ, _+_, _*_, _/_, _^_, _-_, _≤_, _<_};
@@ -60,14 +61,6 @@ fn triple(at: usize, m: usize, e: usize, k: usize, a: Run, b: Run, z: Run) -> Ba
         cz: z.0,
         sz: z.1,
     }
-}
-
-// The numbers of one group's record, for each of document 01's n stripes and one more.
-fn unit_of(w: usize, n: usize) -> usize
-    requires { ⌜ (n < 2 ^ 32) × (256 * unit w n < 2 ^ 63) ⌝ }
-    ensures { λ u. ⌜ u ≡ unit w n ⌝ }
-{
-    (n + 1) * (w / 16)
 }
 
 // Plain 1.
