@@ -19,7 +19,7 @@ use Rattle.format.specs.Synthesis.{level, value, bands, step, flat}
 use Rattle.format.proofs.Exact.{Tall}
 use Rattle.format.proofs.LevelLaws.{level-same}
 use Rattle.format.proofs.PlaceLaws.{read-flat, flat-same}
-use Rattle.format.proofs.TableLaws.{source-in, times}
+use Rattle.format.proofs.TableLaws.{source-in}
 use Rattle.passes.specs.declared.Level as code
 use Rattle.passes.specs.Held.{unit, packetAt, rowAt, held, readAt, Sized}
 use Rattle.passes.specs.Level.{bandAt, bandRow, Lows, Highs, leading}
@@ -41,16 +41,11 @@ rowsAfter g n l = height g n l + highs g l (height g n l)
 
 -- ---- sizes
 module _ (g : Bool) (w n : ℕ) (s : Sized g w n) where
-  times-is : (l : Level) → times l ≡ multiplier (detail l)
-  times-is l1 = refl
-  times-is l2 = refl
-  times-is l3 = refl
-
   -- a row that the table names lies in its packet
   pub source-room : (l : Level) (b : table.Band) (y : ℕ) → y < bandRows (height g n l) (highs g l (height g n l)) b → (packetAt w n (detail l) ≤ sourceAt g w n l b y) × (sourceAt g w n l b y + columns w (detail l) ≤ packetEnd w n l)
   source-room l b y p =
       let i = source-in g n (s .tall) l b y p in
-      row-in w n (s .whole) l (fromComponent (source g l (height g n l) b y)) (fromRow (source g l (height g n l) b y)) (i .1) (rw (← times-is l) (i .0))
+      row-in w n (s .whole) l (fromComponent (source g l (height g n l) b y)) (fromRow (source g l (height g n l) b y)) (i .1) (i .0)
 
 -- the columns, by those of band 0
 pub columns-8 : (w : ℕ) → w % 16 ≡ 0 → w / 8 ≡ 2 * (w / 16)
@@ -153,7 +148,7 @@ module _ (g : Bool) (w n : ℕ) (s : Sized g w n) (l : Level) (i : Colour) (u v 
       level-same _ _ _ _ (shape g l (s .tall)) _ _ _ _ p
       (λ b y x t e.
       let o = source-in g n (s .tall) l b y t in
-      same (mode l i) (source g l (height g n l) b y) x (q _ _ x (o .1) (rw (← times-is g w n s l) (o .0)) e))
+      same (mode l i) (source g l (height g n l) b y) x (q _ _ x (o .1) (o .0) e))
     where
       same : (odd : Bool) (o : Source) (x : ℕ) → u (detail l) i (fromComponent o) (fromRow o) x ≡ v (detail l) i (fromComponent o) (fromRow o) x → value odd o (u (detail l) i) x ≡ value odd o (v (detail l) i) x
       same odd (S c r) x z = z
