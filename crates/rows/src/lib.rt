@@ -123,18 +123,18 @@ pub struct SignBit {
 }
 
 // A value with its sign from a word of four sign bits, of which some are used.
-fn sign_bit(z: i32, word: u64, used: u64) -> SignBit
+fn sign_bit(v: i32, word: u64, used: u64) -> SignBit
     requires { ⌜ used < 4 ⌝ }
-    ensures { λ r. ⌜ r ≡ signBitOf z word used ⌝ }
+    ensures { λ r. ⌜ r ≡ signBitOf v word used ⌝ }
     ensures { λ r. ⌜ r .used ≤ used + 1 ⌝ }
 {
-    if 0 < z {
+    if 0 < v {
         return SignBit {
-            value: with_sign(z, (word >> (3 - used)) % 2),
+            value: with_sign(v, (word >> (3 - used)) % 2),
             used: used + 1,
         };
     }
-    SignBit { value: z, used }
+    SignBit { value: v, used }
 }
 
 // The signs of four values. One word holds them all, but near the end of the allowance.
