@@ -1,8 +1,8 @@
 -- The ways through a width update, each from what was read on it. Assumes nothing.
 use borrow.Author.Tests.{eq-eqb, ne-eqb, le-ltb}
-use mathlib.Core.Path.{_≡_, refl, sym, ap, _∙_}
+use mathlib.Core.Path.{_≡_, ap, _∙_}
 use mathlib.Core.List.{List}
-use Prim.Native.Nat.{ℕ, _+_, _-_, min, zero-le}
+use Prim.Native.Nat.{ℕ, _-_, min, zero-le}
 use native.Mathlib.Nat.{zero-add, zero-sub}
 use native.Mathlib.Omega.{arith}
 use lib.Dec.{leb·zero}

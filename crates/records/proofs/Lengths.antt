@@ -1,18 +1,18 @@
 -- How many coefficients a row, a record and a packet have. Assumes nothing.
 use borrow.Author.Tests.{eqb-true, eqb-false}
-use mathlib.Core.Path.{_≡_, refl, sym, ap, _∙_}
+use mathlib.Core.Path.{_≡_, refl, sym, _∙_}
 use mathlib.Core.Bool.{Bool, true, false, cond}
-use mathlib.Core.List.{List, [], _∷_, _++_}
-use Prim.Native.Nat.{ℕ, zero, suc, _+_, _-_, _*_, _/_, _^_, _≤_, _<_, min}
+use mathlib.Core.List.{List, _++_}
+use Prim.Native.Nat.{ℕ, zero, suc, _+_, _-_, _*_, _/_, _^_, _≤_, _<_}
 use native.Mathlib.Nat.{suc-mul, zero-mul}
 use native.Mathlib.Omega.{arith}
 use lib.IntN.{ℤ, pos}
-use lib.ListN.{length, take, replicate, length-append, length-take, length-replicate}
+use lib.ListN.{length, replicate, length-append, length-take, length-replicate}
 use lib.Dec.{leb, ltb, eqb}
 use lib.Pow.{pow-pos}
 use Rattle.lists.specs.Lists.{row}
 use Rattle.lists.proofs.Rows.{length-rows, row-rows}
-use Rattle.format.specs.Reader.{Reader, Taken, startOf, readOf, findOf, updateOf, runFound, runOf, bitLength}
+use Rattle.format.specs.Reader.{Reader, Taken, startOf, findOf, updateOf, runFound, runOf, bitLength}
 use Rattle.format.specs.Packets.{kind, blocks, recordLength, selector, payloadAt}
 use Rattle.format.specs.Coefficients.{Part, Stretch, zerosOf, groupOf, rowStep, rowFrom, rowOf, rowsOf, codedRecord, recordOf, recordValues, packetValues}
 

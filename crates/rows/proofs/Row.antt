@@ -1,6 +1,6 @@
 -- The turns of a row. Assumes nothing.
 use borrow.Author.Tests.{eq-eqb, ne-eqb, le-leb, lt-leb}
-use mathlib.Core.Path.{_≡_, refl, sym, ap, _∙_}
+use mathlib.Core.Path.{_≡_, sym, ap, _∙_}
 use mathlib.Core.List.{List, [], _∷_, _++_, append-nil}
 use mathlib.Core.Logic.{⊎-elim}
 use Prim.Native.Nat.{ℕ, zero, suc, _+_, _-_, _*_, _≤_, _<_}
@@ -8,7 +8,7 @@ use native.Mathlib.Omega.{arith}
 use lib.IntN.{ℤ, pos}
 use lib.ListN.{length, set, replicate}
 use Rattle.format.specs.Reader.{Taken, Reader}
-use Rattle.format.specs.Coefficients.{GroupAnswer, RunAnswer, Part, prepend, zerosPart, groupPart, stopPart, stopped, zerosOf, groupOf, rowStep, rowFrom}
+use Rattle.format.specs.Coefficients.{GroupAnswer, RunAnswer, Part, zerosPart, groupPart, stopPart, stopped, zerosOf, groupOf, rowStep, rowFrom}
 use Rattle.rows.specs.Course.{filled, Halted, Going}
 use Rattle.rows.proofs.Filled.{filled-past, filled-four}
 

@@ -1,7 +1,6 @@
 -- `same` meets its contract. Assumes nothing.
 use borrow.Author.Needs.{needs}
 use Prim.Native.Nat.{_-_}
-use native.Mathlib.Omega.{arith}
 use lib.ListN.{length}
 use Rattle.records_test.proofs.same.Statement.{statement}
 use Rattle.records_test.proofs.same.Tie as tie

@@ -2,7 +2,6 @@
 use borrow.Author.Tests.{ltb-true, ltb-false}
 use mathlib.Core.Bool.{true≢false}
 use mathlib.Core.Logic.{inl, inr}
-use mathlib.Core.Path.{sym}
 use Rattle.rows.proofs.halts.Statement.{statement}
 use Rattle.rows.proofs.halts.Tie as tie
 

@@ -1,8 +1,6 @@
 -- `BitReader::width_update` meets its contract. Assumes nothing.
 use borrow.Author.Needs.{needs}
-use mathlib.Core.Path.{ap, _∙_}
-use native.Mathlib.Omega.{arith}
-use Rattle.format.specs.Reader.{grown, shrunk, findOf}
+use mathlib.Core.Path.{_∙_}
 use Rattle.bits.specs.View.{asReader, asTaken}
 use Rattle.bits.proofs.Update.{update-zero, update-stopped, update-second}
 use Rattle.bits.proofs.BitReader.width_update.Statement.{statement}
