@@ -1,6 +1,6 @@
 // The coefficient bit reader.
 ghost use mathlib.Core.Path.{_≡_};
-ghost use Prim.Native.Nat.{_+_, _-_, _*_, _/_, _^_, _<_, _≤_, min};
+ghost use Prim.Native.Nat.{_+_, _-_, _/_, _^_, _<_, _≤_, min};
 ghost use lib.ListN.{length};
 ghost use Rattle.format.specs.Bits.{bitsAt, zerosAt};
 ghost use Rattle.format.specs.Reader.{startOf, skipped, spent, readOf, unaryOf, findOf, updateSecond, updateOf, runOf, bitLength};

@@ -196,9 +196,6 @@ module _ (s : List ℕ) (r : Reader) (x sel : ℕ) (below : sel < 16) (fits : x 
         let lc = nonzero-le (q .c) in
         simp (sign-first (q .a) a, sign-at (q .b) n1 b (omega arith), sign-at (q .c) n2 c (omega arith), sign-at (q .d) n3 d (omega arith))
 
-    pub signs-le : with-signs .used ≤ 4
-    signs-le = omega (arith, nonzero-le (q .a), nonzero-le (q .b), nonzero-le (q .c), nonzero-le (q .d))
-
 -- a group out of a word
 module _ (s : List ℕ) (r : Reader) (sel w word g : ℕ) (go : r .status ≡ 0) (fits : word < 2 ^ 64)
     (holds : word / 2 ^ 7 ≡ bitsAt s (r .place) 57) (some : 1 ≤ w) (most : w ≤ 12) (below : sel < 16) (enough : 57 ≤ r .remaining) (more : 1 < g) where
