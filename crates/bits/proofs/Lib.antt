@@ -1,0 +1,5 @@
+pub mod BitByBit
+pub mod Fast
+pub mod Reads4
+pub mod Run
+pub mod Update

@@ -1,0 +1,2 @@
+-- What the contracts of `bits` cite, besides document 01.
+pub mod View

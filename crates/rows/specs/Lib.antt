@@ -1,0 +1,4 @@
+-- What the contracts of `rows` cite, besides document 01.
+pub mod Course
+pub mod View
+pub mod Word

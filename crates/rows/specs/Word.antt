@@ -1,0 +1,87 @@
+-- A group of four values out of one word that holds all its bits: what is read from the word.
+use mathlib.Core.List.{List}
+use mathlib.Core.Bool.{cond}
+use Prim.Native.Nat.{ℕ, _+_, _-_, _*_, _/_, _%_, _^_, _≤_, _<_, min}
+use lib.IntN.{ℤ, pos, negℤ}
+use lib.Signed.{ltZ}
+use lib.ListN.{set}
+use lib.Count.{leadingZeros}
+use lib.Dec.{ltb, eqb}
+use Rattle.rows.specs.declared.Change.{Change}
+use Rattle.rows.specs.declared.Split.{Split}
+use Rattle.rows.specs.declared.SignBit.{SignBit}
+
+-- a value with its sign from a word of four sign bits, of which some are used
+unfoldable pub signBitOf : ℤ → ℕ → ℕ → SignBit
+signBitOf z word used =
+    cond (ltZ (pos 0) z) (record { value = cond (eqb (word / 2 ^ (3 - used) % 2) 0) z (negℤ z); used = used + 1 })
+    (record { value = z; used = used })
+
+-- a width update out of a word's first bits
+unfoldable pub changeOf : ℕ → ℕ → Change
+changeOf word w =
+    let z = leadingZeros 64 (word * 2 ^ 2 % 2 ^ 64) in
+    record {
+      width = cond (ltb word (2 ^ 63)) w (w + cond (ltb word (2 ^ 63 + 2 ^ 62)) (z + 1) 0 - cond (ltb word (2 ^ 63 + 2 ^ 62)) 0 (z + 1));
+      used = cond (ltb word (2 ^ 63)) 1 (cond (ltb word (2 ^ 63 + 2 ^ 62)) (z + 3) (min (z + 3) (w + 1)));
+    }
+
+-- a short value under a selector
+unfoldable pub scaledOf : ℕ → ℕ → ℕ
+scaledOf u sel = cond (eqb sel 0) u (cond (eqb u 0) u ((2 * u + 1) * 2 ^ (sel - 1) - u % 2))
+
+-- 1 for a value that takes a sign bit
+unfoldable pub nonzeroOf : ℕ → ℕ
+nonzeroOf u = cond (eqb u 0) 0 1
+
+-- a magnitude under the first bit of a word
+unfoldable pub signedOf : ℕ → ℕ → ℤ
+signedOf m word = cond (ltb word (2 ^ 63)) (pos m) (negℤ (pos m))
+
+-- four values with their signs, and the sign bits taken
+pub record Quad : Type 0 where
+  pub a : ℤ
+  pub b : ℤ
+  pub c : ℤ
+  pub d : ℤ
+  pub used : ℕ
+
+-- the four values of a word's first 4 w bits
+unfoldable pub splitOf : ℕ → ℕ → Split
+splitOf word w =
+    let t = word / 2 ^ (64 - 4 * w) in
+    record { a = t / 2 ^ w / 2 ^ w / 2 ^ w; b = t / 2 ^ w / 2 ^ w % 2 ^ w; c = t / 2 ^ w % 2 ^ w; d = t % 2 ^ w }
+
+pub record Narrow (v : Split) : Type 0 where
+  pub a : v .a < 2 ^ 12
+  pub b : v .b < 2 ^ 12
+  pub c : v .c < 2 ^ 12
+  pub d : v .d < 2 ^ 12
+
+-- under a selector, with the signs from the first bits of another word
+abbrev pub withSigns : ℕ → Split → ℕ → Quad
+withSigns sel v x =
+    let n1 = nonzeroOf (v .a) in
+    let n2 = n1 + nonzeroOf (v .b) in
+    let n3 = n2 + nonzeroOf (v .c) in
+    record {
+      a = signedOf (scaledOf (v .a) sel) x;
+      b = signedOf (scaledOf (v .b) sel) (x * 2 ^ n1 % 2 ^ 64);
+      c = signedOf (scaledOf (v .c) sel) (x * 2 ^ n2 % 2 ^ 64);
+      d = signedOf (scaledOf (v .d) sel) (x * 2 ^ n3 % 2 ^ 64);
+      used = n3 + nonzeroOf (v .d);
+    }
+
+unfoldable pub quadOf : ℕ → ℕ → ℕ → ℕ → Quad
+quadOf sel word w used = withSigns sel (splitOf word w) (word * 2 ^ used % 2 ^ 64)
+
+-- four values in their places
+abbrev pub storeQuad : List ℤ → ℕ → Quad → List ℤ
+storeQuad l i q = set (set (set (set l i (q .a)) (i + 1) (q .b)) (i + 2) (q .c)) (i + 3) (q .d)
+
+-- what the loop of groups asks of the next one
+pub record Near (w out n place end : ℕ) : Type 0 where
+  pub some : 1 ≤ w
+  pub short : w ≤ 12
+  pub more : out + 4 < n
+  pub before : place < end

@@ -1,0 +1,658 @@
+// One row of coefficients.
+ghost use mathlib.Core.Path.{_≡_};
+ghost use mathlib.Core.Bool.{true, false, cond};
+ghost use mathlib.Core.List.{List, _++_};
+ghost use Prim.Native.Nat.{_+_, _-_, _*_, _%_, _^_, _<_, _≤_, min};
+ghost use lib.IntN.{ℤ, pos, negℤ};
+ghost use lib.Signed.{ltZ};
+ghost use lib.Dec.{eqb};
+ghost use lib.ListN.{length, replicate, set};
+ghost use Rattle.format.specs.Coefficients.{valueOf, signOf, signsOf, widthAfter, widthNext, groupOf, zerosOf, stopped, rowOf};
+ghost use Rattle.bits.specs.View.{asReader, asTaken, asFour, Ready};
+ghost use Rattle.rows.specs.View.{asSigned, asSignedFour, asGroup, asRun};
+ghost use Rattle.rows.specs.Word.{signBitOf, changeOf, scaledOf, nonzeroOf, signedOf, splitOf, Narrow, quadOf, storeQuad, Near};
+ghost use Rattle.rows.specs.Course.{stateOf, filled, movedTo, Halted, Onward, Done};
+use bits::BitReader;
+use bits::Four;
+use bits::Taken;
+use bits::least;
+use bits::less;
+use words::whole;
+use wrap32::cut32;
+
+// A coefficient, and the reader after it.
+pub struct Signed {
+    pub value: i32,
+    pub reader: BitReader,
+}
+
+// Four coefficients, and the reader after them.
+pub struct SignedFour {
+    pub a: i32,
+    pub b: i32,
+    pub c: i32,
+    pub d: i32,
+    pub reader: BitReader,
+}
+
+// The value u under a selector.
+fn value(u: u64, selector: u64) -> i32
+    requires { ⌜ (u < 2 ^ 19) × (selector < 16) ⌝ }
+    ensures { λ r. ⌜ r ≡ valueOf u selector ⌝ }
+{
+    if selector == 0 {
+        return u as i32;
+    }
+    if u == 0 {
+        return 0;
+    }
+    cut32((((2 * u + 1) << (selector - 1)) - u % 2) as i64)
+}
+
+// A value above 0 under a sign bit. It stands by itself so that it is compiled without a branch.
+fn with_sign(z: i32, bit: u64) -> i32
+    requires { ⌜ ltZ (pos 0) z ≡ true ⌝ }
+    ensures { λ r. ⌜ r ≡ cond (eqb bit 0) z (negℤ z) ⌝ }
+{
+    if bit == 0 { z } else { -z }
+}
+
+// A value with its sign.
+fn sign(z: i32, reader: BitReader, packet: &[u8]) -> Signed
+    requires { ⌜ Ready (now packet) reader ⌝ }
+    ensures { λ r. ⌜ asSigned r ≡ signOf (now (packet .entry)) z (asReader reader) ⌝ }
+    ensures { λ r. ⌜ Ready (now (packet .entry)) (r .reader) ⌝ }
+{
+    if 0 < z {
+        let t = reader.read(packet, 1);
+        let after = t.reader;
+        return Signed {
+            value: with_sign(z, t.value),
+            reader: after,
+        };
+    }
+    Signed { value: z, reader }
+}
+
+// A group, and the width and the reader after it.
+pub struct GroupAnswer {
+    pub a: i32,
+    pub b: i32,
+    pub c: i32,
+    pub d: i32,
+    pub width: u64,
+    pub reader: BitReader,
+}
+
+// A run of zero groups, and the width and the reader after it.
+pub struct RunAnswer {
+    pub groups: u64,
+    pub width: u64,
+    pub reader: BitReader,
+}
+
+// The signs of four values, one by one.
+fn signs_apart(q: Four, selector: u64, reader: BitReader, packet: &[u8]) -> SignedFour
+    requires { ⌜ Ready (now packet) reader ⌝ }
+    requires { ⌜ selector < 16 ⌝ }
+    requires { ⌜ (q .a < 2 ^ 19) × (q .b < 2 ^ 19) × (q .c < 2 ^ 19) × (q .d < 2 ^ 19) ⌝ }
+    ensures { λ r. ⌜ asSignedFour r ≡ signsOf (now (packet .entry)) selector (asFour q) (asReader reader) ⌝ }
+    ensures { λ r. ⌜ Ready (now (packet .entry)) (r .reader) ⌝ }
+{
+    let a = sign(value(q.a, selector), reader, packet);
+    let ra = a.reader;
+    let b = sign(value(q.b, selector), ra, packet);
+    let rb = b.reader;
+    let c = sign(value(q.c, selector), rb, packet);
+    let rc = c.reader;
+    let d = sign(value(q.d, selector), rc, packet);
+    let rd = d.reader;
+    SignedFour {
+        a: a.value,
+        b: b.value,
+        c: c.value,
+        d: d.value,
+        reader: rd,
+    }
+}
+
+// A value with its sign, and how many sign bits of a word of four are used after it.
+pub struct SignBit {
+    pub value: i32,
+    pub used: u64,
+}
+
+// A value with its sign from a word of four sign bits, of which some are used.
+fn sign_bit(v: i32, word: u64, used: u64) -> SignBit
+    requires { ⌜ used < 4 ⌝ }
+    ensures { λ r. ⌜ r ≡ signBitOf v word used ⌝ }
+    ensures { λ r. ⌜ r .used ≤ used + 1 ⌝ }
+{
+    if 0 < v {
+        return SignBit {
+            value: with_sign(v, (word >> (3 - used)) % 2),
+            used: used + 1,
+        };
+    }
+    SignBit { value: v, used }
+}
+
+// The signs of four values. One word holds them all, but near the end of the allowance.
+fn signs(q: Four, selector: u64, reader: BitReader, packet: &[u8]) -> SignedFour
+    requires { ⌜ Ready (now packet) reader ⌝ }
+    requires { ⌜ selector < 16 ⌝ }
+    requires { ⌜ (q .a < 2 ^ 19) × (q .b < 2 ^ 19) × (q .c < 2 ^ 19) × (q .d < 2 ^ 19) ⌝ }
+    ensures { λ r. ⌜ asSignedFour r ≡ signsOf (now (packet .entry)) selector (asFour q) (asReader reader) ⌝ }
+    ensures { λ r. ⌜ Ready (now (packet .entry)) (r .reader) ⌝ }
+{
+    if reader.remaining < 4 {
+        return signs_apart(q, selector, reader, packet);
+    }
+    let word = reader.ahead(packet, 4);
+    let a = sign_bit(value(q.a, selector), word, 0);
+    let b = sign_bit(value(q.b, selector), word, a.used);
+    let c = sign_bit(value(q.c, selector), word, b.used);
+    let d = sign_bit(value(q.d, selector), word, c.used);
+    SignedFour {
+        a: a.value,
+        b: b.value,
+        c: c.value,
+        d: d.value,
+        reader: reader.skip(d.used),
+    }
+}
+
+// The width after a zero run.
+fn width_after(reader: BitReader, packet: &[u8], left: u64) -> Taken
+    requires { ⌜ Ready (now packet) reader ⌝ }
+    ensures { λ r. ⌜ asTaken r ≡ widthAfter (now (packet .entry)) left (asReader reader) ⌝ }
+    ensures { λ r. ⌜ Ready (now (packet .entry)) (r .reader) ⌝ }
+{
+    if left == 0 {
+        return Taken { value: 0, reader };
+    }
+    reader.unary(packet)
+}
+
+// The width after a group's values.
+fn width_next(reader: BitReader, packet: &[u8], width: u64, groups: u64) -> Taken
+    requires { ⌜ Ready (now packet) reader ⌝ }
+    requires { ⌜ width ≤ 19 ⌝ }
+    ensures { λ r. ⌜ asTaken r ≡ widthNext (now (packet .entry)) groups width (asReader reader) ⌝ }
+    ensures { λ r. ⌜ Ready (now (packet .entry)) (r .reader) ⌝ }
+{
+    if groups <= 1 {
+        return Taken {
+            value: width,
+            reader,
+        };
+    }
+    reader.width_update(packet, width)
+}
+
+// A group of four values.
+fn group(reader: BitReader, packet: &[u8], width: u64, selector: u64, groups: u64) -> GroupAnswer
+    requires { ⌜ Ready (now packet) reader ⌝ }
+    requires { ⌜ (width ≤ 19) × (selector < 16) ⌝ }
+    ensures { λ r. ⌜ asGroup r ≡ groupOf (now (packet .entry)) selector groups (stateOf width reader) ⌝ }
+    ensures { λ r. ⌜ Ready (now (packet .entry)) (r .reader) ⌝ }
+{
+    let q = reader.read4(packet, width);
+    let rq = q.reader;
+    let n = width_next(rq, packet, width, groups);
+    let rn = n.reader;
+    let z = signs(q, selector, rn, packet);
+    let rz = z.reader;
+    GroupAnswer {
+        a: z.a,
+        b: z.b,
+        c: z.c,
+        d: z.d,
+        width: n.value,
+        reader: rz,
+    }
+}
+
+// A run of zero groups.
+fn zeros(reader: BitReader, packet: &[u8], groups: u64) -> RunAnswer
+    requires { ⌜ Ready (now packet) reader ⌝ }
+    requires { ⌜ (0 < groups) × (groups < 2 ^ 32) ⌝ }
+    ensures { λ r. ⌜ asRun r ≡ zerosOf (now (packet .entry)) groups (asReader reader) ⌝ }
+    ensures { λ r. ⌜ Ready (now (packet .entry)) (r .reader) ⌝ }
+    ensures { λ r. ⌜ (0 < r .groups) × (r .groups ≤ groups) ⌝ }
+{
+    let run = reader.zero_run(packet, groups);
+    let rr = run.reader;
+    let n = width_after(rr, packet, groups - run.value);
+    let rn = n.reader;
+    RunAnswer {
+        groups: run.value,
+        width: n.value,
+        reader: rn,
+    }
+}
+
+// Status 1 if it was 0.
+fn stop(reader: BitReader) -> BitReader
+    ensures { λ r. ⌜ asReader r ≡ stopped (asReader reader) ⌝ }
+    ensures { λ r. ⌜ r .place + r .remaining ≡ reader .place + reader .remaining ⌝ }
+{
+    if reader.status == 0 {
+        return BitReader {
+            place: reader.place,
+            cache: 0,
+            remaining: reader.remaining,
+            status: 1,
+        };
+    }
+    BitReader {
+        place: reader.place,
+        cache: 0,
+        remaining: reader.remaining,
+        status: reader.status,
+    }
+}
+
+// A value at a place, if the slice has it.
+fn put(dst: &mut [i32], i: usize, v: i32)
+    ensures { λ r. ⌜ now (dst .exit) ≡ set (now (dst .entry)) i v ⌝ }
+{
+    if i < dst.len() {
+        dst[i] = v;
+    }
+}
+
+// The lesser of two numbers.
+fn lower(a: usize, b: usize) -> usize
+    ensures { λ r. ⌜ r ≡ min a b ⌝ }
+{
+    if a <= b { a } else { b }
+}
+
+// So many zeros from an element on, as far as the slice goes.
+pub fn clear(dst: &mut [i32], from: usize, count: usize)
+    requires { ⌜ from + count < 2 ^ 64 ⌝ }
+    ensures { λ r. ⌜ ((l : List ℤ) → filled (now (dst .exit)) (from + count) l ≡ filled (now (dst .entry)) from (replicate count (pos 0) ++ l)) ⌝ }
+{
+    let end = lower(from + count, dst.len());
+    let mut i = from;
+    while i < end {
+        dst[i] = 0;
+        i += 1;
+    }
+}
+
+// Four values at a place of a slice, as far as it goes.
+fn put4(dst: &mut [i32], i: usize, a: i32, b: i32, c: i32, d: i32)
+    requires { ⌜ i < 2 ^ 63 ⌝ }
+    ensures { λ r. ⌜ now (dst .exit) ≡ set (set (set (set (now (dst .entry)) i a) (i + 1) b) (i + 2) c) (i + 3) d ⌝ }
+{
+    put(dst, i, a);
+    put(dst, i + 1, b);
+    put(dst, i + 2, c);
+    put(dst, i + 3, d);
+}
+
+// A width, and the bits that its update took.
+pub struct Change {
+    pub width: u64,
+    pub used: u64,
+}
+
+// One of two numbers, without a branch.
+fn pick(t: bool, a: u64, b: u64) -> u64
+    ensures { λ r. ⌜ r ≡ cond t a b ⌝ }
+{
+    if t { a } else { b }
+}
+
+// A width update out of a word: the width, and the bits that it takes.
+fn changed(word: u64, width: u64) -> Change
+    requires { ⌜ width ≤ 12 ⌝ }
+    ensures { λ r. ⌜ r ≡ changeOf word width ⌝ }
+    ensures { λ r. ⌜ r .used ≤ 67 ⌝ }
+{
+    let z = u64::leading_zeros(word << 2) as u64;
+    let up = word < 0xC000_0000_0000_0000;
+    let w = less(width + pick(up, z + 1, 0), pick(up, 0, z + 1));
+    let n = pick(up, z + 3, least(z + 3, width + 1));
+    let keep = word < 0x8000_0000_0000_0000;
+    Change {
+        width: pick(keep, width, w),
+        used: pick(keep, 1, n),
+    }
+}
+
+// 1 for a value that takes a sign bit.
+fn nonzero(u: u64) -> u64
+    ensures { λ r. ⌜ (r ≡ nonzeroOf u) × (r ≤ 1) ⌝ }
+{
+    if u == 0 { 0 } else { 1 }
+}
+
+// A magnitude as a number above or at 0.
+fn plus(m: u64) -> i32
+    requires { ⌜ m < 2 ^ 31 ⌝ }
+    ensures { λ r. ⌜ r ≡ pos m ⌝ }
+{
+    m as i32
+}
+
+// And as one below or at 0.
+fn opposite(m: u64) -> i32
+    requires { ⌜ m < 2 ^ 31 ⌝ }
+    ensures { λ r. ⌜ r ≡ negℤ (pos m) ⌝ }
+{
+    -(m as i32)
+}
+
+// A magnitude under the first bit of a word.
+fn with_bit(m: u64, word: u64) -> i32
+    requires { ⌜ m < 2 ^ 31 ⌝ }
+    ensures { λ r. ⌜ r ≡ signedOf m word ⌝ }
+{
+    let p = plus(m);
+    let q = opposite(m);
+    if word < 0x8000_0000_0000_0000 { p } else { q }
+}
+
+// A short value under a selector above 0.
+fn scaled(u: u64, half: u64) -> u64
+    requires { ⌜ (u < 2 ^ 12) × (half < 15) ⌝ }
+    ensures { λ r. ⌜ (r ≡ scaledOf u (half + 1)) × (r < 2 ^ 31) ⌝ }
+{
+    ((2 * u + nonzero(u)) << half) - u % 2
+}
+
+// Four values of a word.
+pub struct Split {
+    pub a: u64,
+    pub b: u64,
+    pub c: u64,
+    pub d: u64,
+}
+
+// The last n bits.
+fn last(t: u64, n: u64) -> u64
+    requires { ⌜ n ≤ 12 ⌝ }
+    ensures { λ r. ⌜ (r ≡ t % 2 ^ n) × (r < 2 ^ 12) ⌝ }
+{
+    t % (1u64 << n)
+}
+
+// The four values at the front of a word.
+fn front(word: u64, width: u64) -> Split
+    requires { ⌜ (1 ≤ width) × (width ≤ 12) ⌝ }
+    ensures { λ r. ⌜ r ≡ splitOf word width ⌝ }
+    ensures { λ r. ⌜ Narrow r ⌝ }
+{
+    let t = word >> (64 - 4 * width);
+    let t1 = t >> width;
+    let t2 = t1 >> width;
+    Split {
+        a: t2 >> width,
+        b: last(t2, width),
+        c: last(t1, width),
+        d: last(t, width),
+    }
+}
+
+// Four values with their signs out of a word; the sign bits that they take.
+fn quad(dst: &mut [i32], at: usize, word: u64, width: u64, used: u64) -> u64
+    requires { ⌜ (at + 4 ≤ length (now dst)) × (1 ≤ width) × (width ≤ 12) × (used < 60) ⌝ }
+    ensures { λ r. ⌜ now (dst .exit) ≡ storeQuad (now (dst .entry)) at (quadOf 0 word width used) ⌝ }
+    ensures { λ r. ⌜ (r ≡ quadOf 0 word width used .used) × (r ≤ 4) ⌝ }
+{
+    let v = front(word, width);
+    let signs = word << used;
+    let n1 = nonzero(v.a);
+    let n2 = n1 + nonzero(v.b);
+    let n3 = n2 + nonzero(v.c);
+    dst[at] = with_bit(v.a, signs);
+    dst[at + 1] = with_bit(v.b, signs << n1);
+    dst[at + 2] = with_bit(v.c, signs << n2);
+    dst[at + 3] = with_bit(v.d, signs << n3);
+    n3 + nonzero(v.d)
+}
+
+// The same under a selector above 0.
+fn quad_scaled(dst: &mut [i32], at: usize, word: u64, width: u64, used: u64, half: u64) -> u64
+    requires { ⌜ (at + 4 ≤ length (now dst)) × (1 ≤ width) × (width ≤ 12) × (used < 60) × (half < 15) ⌝ }
+    ensures { λ r. ⌜ now (dst .exit) ≡ storeQuad (now (dst .entry)) at (quadOf (half + 1) word width used) ⌝ }
+    ensures { λ r. ⌜ (r ≡ quadOf (half + 1) word width used .used) × (r ≤ 4) ⌝ }
+{
+    let v = front(word, width);
+    let signs = word << used;
+    let n1 = nonzero(v.a);
+    let n2 = n1 + nonzero(v.b);
+    let n3 = n2 + nonzero(v.c);
+    dst[at] = with_bit(scaled(v.a, half), signs);
+    dst[at + 1] = with_bit(scaled(v.b, half), signs << n1);
+    dst[at + 2] = with_bit(scaled(v.c, half), signs << n2);
+    dst[at + 3] = with_bit(scaled(v.d, half), signs << n3);
+    n3 + nonzero(v.d)
+}
+
+// Where the groups stopped that were decoded at one go.
+pub struct Next {
+    pub out: usize,
+    pub width: u64,
+    pub reader: BitReader,
+}
+
+// The place before which a word stands whole in the packet and in the allowance.
+fn limit(reader: BitReader, packet: &[u8]) -> u64
+    requires { ⌜ Ready (now packet) reader ⌝ }
+    ensures { λ r. ⌜ (r ≤ reader .place + reader .remaining - 72) × (r ≤ length (now (packet .entry)) * 8 - 72) ⌝ }
+{
+    let bytes = least(packet.len() as u64, 0x100_0000_0000);
+    less(least(reader.place + reader.remaining, bytes * 8), 72)
+}
+
+// Whether the next group is not the row's last and stands whole in a word, if its update is short.
+fn near(width: u64, out: usize, n: usize, place: u64, end: u64) -> bool
+    requires { ⌜ out < 2 ^ 33 ⌝ }
+    ensures { λ r. ⌜ (r ≡ true → Near width out n place end) ⌝ }
+{
+    if width < 1 {
+        return false;
+    }
+    if 12 < width {
+        return false;
+    }
+    if n <= out + 4 {
+        return false;
+    }
+    place < end
+}
+
+// A reader further on in its allowance.
+fn moved(reader: BitReader, place: u64) -> BitReader
+    requires { ⌜ (reader .place ≤ place) × (place ≤ reader .place + reader .remaining) × (reader .place + reader .remaining < 2 ^ 40) ⌝ }
+    ensures { λ r. ⌜ asReader r ≡ movedTo (asReader reader) place ⌝ }
+{
+    reader.skip(place - reader.place)
+}
+
+// Groups out of single words, as long as each stands whole in its word and is not the row's last; selector 0.
+fn fast(reader: BitReader, packet: &[u8], width: u64, dst: &mut [i32], out: usize) -> Next
+    requires { ⌜ Ready (now packet) reader ⌝ }
+    requires { ⌜ (reader .status ≡ 0) × (length (now dst) < 2 ^ 32) × (out < length (now dst)) ⌝ }
+    ensures { λ r. ⌜ Onward (now (packet .entry)) 0 (now (dst .entry)) out (stateOf width reader) (now (dst .exit)) (r .out) (stateOf (r .width) (r .reader)) ⌝ }
+    ensures { λ r. ⌜ Done (now (packet .entry)) (length (now (dst .entry))) out width (r .out) (r .width) (r .reader) ⌝ }
+{
+    let n = dst.len();
+    let end = limit(reader, packet);
+    let mut place = reader.place;
+    let mut w = width;
+    let mut i = out;
+    while near(w, i, n, place, end) {
+        let word = whole(packet, place);
+        let u = changed(word << (4 * w), w);
+        let used = 4 * w + u.used;
+        if 53 < used {
+            return Next {
+                out: i,
+                width: w,
+                reader: moved(reader, place),
+            };
+        }
+        let signs = quad(dst, i, word, w, used);
+        place = place + used + signs;
+        w = u.width;
+        i += 4;
+    }
+    Next {
+        out: i,
+        width: w,
+        reader: moved(reader, place),
+    }
+}
+
+// The same under the selector half + 1.
+fn fast_scaled(
+    reader: BitReader,
+    packet: &[u8],
+    width: u64,
+    half: u64,
+    dst: &mut [i32],
+    out: usize,
+) -> Next
+    requires { ⌜ Ready (now packet) reader ⌝ }
+    requires { ⌜ (reader .status ≡ 0) × (length (now dst) < 2 ^ 32) × (out < length (now dst)) × (half < 15) ⌝ }
+    ensures { λ r. ⌜ Onward (now (packet .entry)) (half + 1) (now (dst .entry)) out (stateOf width reader) (now (dst .exit)) (r .out) (stateOf (r .width) (r .reader)) ⌝ }
+    ensures { λ r. ⌜ Done (now (packet .entry)) (length (now (dst .entry))) out width (r .out) (r .width) (r .reader) ⌝ }
+{
+    let n = dst.len();
+    let end = limit(reader, packet);
+    let mut place = reader.place;
+    let mut w = width;
+    let mut i = out;
+    while near(w, i, n, place, end) {
+        let word = whole(packet, place);
+        let u = changed(word << (4 * w), w);
+        let used = 4 * w + u.used;
+        if 53 < used {
+            return Next {
+                out: i,
+                width: w,
+                reader: moved(reader, place),
+            };
+        }
+        let signs = quad_scaled(dst, i, word, w, used, half);
+        place = place + used + signs;
+        w = u.width;
+        i += 4;
+    }
+    Next {
+        out: i,
+        width: w,
+        reader: moved(reader, place),
+    }
+}
+
+// The same under any selector.
+fn quick(
+    reader: BitReader,
+    packet: &[u8],
+    width: u64,
+    selector: u64,
+    dst: &mut [i32],
+    out: usize,
+) -> Next
+    requires { ⌜ Ready (now packet) reader ⌝ }
+    requires { ⌜ (reader .status ≡ 0) × (length (now dst) < 2 ^ 32) × (out < length (now dst)) × (selector < 16) ⌝ }
+    ensures { λ r. ⌜ Onward (now (packet .entry)) selector (now (dst .entry)) out (stateOf width reader) (now (dst .exit)) (r .out) (stateOf (r .width) (r .reader)) ⌝ }
+    ensures { λ r. ⌜ Done (now (packet .entry)) (length (now (dst .entry))) out width (r .out) (r .width) (r .reader) ⌝ }
+{
+    if selector == 0 {
+        return fast(reader, packet, width, dst, out);
+    }
+    fast_scaled(reader, packet, width, selector - 1, dst, out)
+}
+
+// Groups of four values: those out of single words, then one as it is read.
+fn groups(
+    reader: BitReader,
+    packet: &[u8],
+    width: u64,
+    selector: u64,
+    dst: &mut [i32],
+    out: usize,
+) -> Next
+    requires { ⌜ Ready (now packet) reader ⌝ }
+    requires { ⌜ (reader .status ≡ 0) × (length (now dst) < 2 ^ 32) × (out < length (now dst)) × (selector < 16) × (1 ≤ width) × (width ≤ 19) ⌝ }
+    ensures { λ r. ⌜ Onward (now (packet .entry)) selector (now (dst .entry)) out (stateOf width reader) (now (dst .exit)) (r .out) (stateOf (r .width) (r .reader)) ⌝ }
+    ensures { λ r. ⌜ (out < r .out) × (r .out < length (now (dst .entry)) + 4) × Ready (now (packet .entry)) (r .reader) ⌝ }
+{
+    let f = quick(reader, packet, width, selector, dst, out);
+    let at = f.out;
+    let w = f.width;
+    let r = f.reader;
+    if w == 0 {
+        return f;
+    }
+    if 19 < w {
+        return f;
+    }
+    let left = (dst.len() - at + 3) / 4;
+    let q = group(r, packet, w, selector, left as u64);
+    put4(dst, at, q.a, q.b, q.c, q.d);
+    let rq = q.reader;
+    Next {
+        out: at + 4,
+        width: q.width,
+        reader: rq,
+    }
+}
+
+// Whether the rest of a row is zero.
+fn halts(reader: BitReader, width: u64) -> bool
+    ensures { λ r. ⌜ (r ≡ true → Halted (stateOf width reader)) × (r ≡ false → (reader .status ≡ 0) × (width ≤ 19)) ⌝ }
+{
+    if reader.status != 0 {
+        return true;
+    }
+    19 < width
+}
+
+// One row of coefficients, as many as the slice has elements.
+pub fn decode_component(
+    reader: BitReader,
+    packet: &[u8],
+    dst: &mut [i32],
+    selector: u64,
+) -> BitReader
+    requires { ⌜ Ready (now packet) reader ⌝ }
+    requires { ⌜ (selector < 16) × (length (now dst) < 2 ^ 32) ⌝ }
+    ensures { λ r. ⌜ asReader r ≡ rowOf (now (packet .entry)) selector (length (now (dst .entry))) (asReader reader) .reader ⌝ }
+    ensures { λ r. ⌜ now (dst .exit) ≡ rowOf (now (packet .entry)) selector (length (now (dst .entry))) (asReader reader) .values ⌝ }
+    ensures { λ r. ⌜ Ready (now (packet .entry)) r ⌝ }
+{
+    let n = dst.len();
+    let first = reader.width_start(packet);
+    let mut r = first.reader;
+    let mut width = first.value;
+    let mut out: usize = 0;
+    while out < n {
+        let left = (n - out + 3) / 4;
+        if halts(r, width) {
+            clear(dst, out, 4 * left);
+            return stop(r);
+        }
+        if width == 0 {
+            let run = zeros(r, packet, left as u64);
+            let count = 4 * (run.groups as usize);
+            clear(dst, out, count);
+            r = run.reader;
+            width = run.width;
+            out += count;
+        } else {
+            let next = groups(r, packet, width, selector, dst, out);
+            r = next.reader;
+            width = next.width;
+            out = next.out;
+        }
+    }
+    r
+}
