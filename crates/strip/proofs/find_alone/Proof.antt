@@ -1,0 +1,81 @@
+-- `strip::find_alone` meets its contract. Assumes nothing.
+use mathlib.Core.Path.{_≡_, refl, sym, _∙_}
+use mathlib.Core.Bool.{true, false}
+use Prim.Native.Nat.{_+_, _-_}
+use native.Mathlib.Omega.{arith}
+use borrow.Author.Needs.{needs}
+use borrow.Author.Tests.{eq-eqb, ne-eqb, not-true, not-false}
+use lib.ListN.{drop}
+use lib.Dec.{eqb}
+use Rattle.format.specs.Strip.{width, codedHeight, payload, alone}
+use Rattle.strip.proofs.Search.{dropped, kept, told, told-not, lone-invalid, lone-by}
+use Rattle.strip.proofs.find_alone.Statement.{statement}
+use Rattle.strip.proofs.find_alone.Tie as tie
+
+returns : tie.Need-returns
+unfolding alone
+returns c =
+    let a = c .before .before .before .before .before .args in
+    dropped _ _ (lone-invalid (a .strip .now) (a .full-w) (a .full-h) _ (told-not _ _ _ (c .before .before .before .stream-at .ensures) (c .enum-told .given .1) (c .before .before .parse-stream-header .ensures .1)))
+
+stream-length-requires : tie.Need-stream-length-requires
+unfolding alone
+stream-length-requires c κs = (told _ _ _ _ refl (c .before .h .given .1) (c .before .before .before .parse-stream-header .ensures .1)) .1
+
+returns-2 : tie.Need-returns-2
+unfolding alone
+returns-2 c =
+    let a = c .before .before .before .before .before .before .before .before .before .args in
+    let s = drop 512 (a .strip .now) in
+    let sound = told _ s _ _ (c .before .before .before .before .before .before .before .stream-at .ensures) (c .before .before .before .before .h .given .1) (c .before .before .before .before .before .before .parse-stream-header .ensures .1) in
+    let pay : c .before .before .stream-length .result - 128 ≡ payload s = rw (← (c .before .before .before .before .before .before .before .stream-at .ensures)) (omega (arith, c .before .before .stream-length .ensures .0)) in
+    dropped _ _ (lone-by (a .strip .now) (a .full-w) (a .full-h) s false (eqb (width s) (a .full-w)) (eqb (codedHeight s) (a .full-h)) (sound .0) (rw (← pay) (sym (c .before .holds-payload .ensures) ∙ not-true (c .before .holds-payload .result) (c .if1 .taken))) refl refl)
+
+returns-3 : tie.Need-returns-3
+unfolding alone
+returns-3 c =
+    let a = c .before .before .before .before .before .before .before .before .before .before .before .args in
+    let s = drop 512 (a .strip .now) in
+    let sound = told _ s _ _ (c .before .before .before .before .before .before .before .before .before .stream-at .ensures) (c .before .before .before .before .before .before .h .given .1) (c .before .before .before .before .before .before .before .before .parse-stream-header .ensures .1) in
+    let pay : c .before .before .before .before .stream-length .result - 128 ≡ payload s = rw (← (c .before .before .before .before .before .before .before .before .before .stream-at .ensures)) (omega (arith, c .before .before .before .before .stream-length .ensures .0)) in
+    dropped _ _ (lone-by (a .strip .now) (a .full-w) (a .full-h) s true false (eqb (codedHeight s) (a .full-h)) (sound .0) (rw (← pay) (sym (c .before .before .before .holds-payload .ensures) ∙ not-false (c .before .before .before .holds-payload .result) (c .before .before .if1 .left))) (rw (← (sound .2)) (ne-eqb _ _ (c .if2 .taken))) refl)
+
+returns-4 : tie.Need-returns-4
+unfolding alone
+returns-4 c =
+    let a = c .before .before .before .before .before .before .before .before .before .before .before .before .before .args in
+    let s = drop 512 (a .strip .now) in
+    let sound = told _ s _ _ (c .before .before .before .before .before .before .before .before .before .before .before .stream-at .ensures) (c .before .before .before .before .before .before .before .before .h .given .1) (c .before .before .before .before .before .before .before .before .before .before .parse-stream-header .ensures .1) in
+    let pay : c .before .before .before .before .before .before .stream-length .result - 128 ≡ payload s = rw (← (c .before .before .before .before .before .before .before .before .before .before .before .stream-at .ensures)) (omega (arith, c .before .before .before .before .before .before .stream-length .ensures .0)) in
+    dropped _ _ (lone-by (a .strip .now) (a .full-w) (a .full-h) s true true false (sound .0) (rw (← pay) (sym (c .before .before .before .before .before .holds-payload .ensures) ∙ not-false (c .before .before .before .before .before .holds-payload .result) (c .before .before .before .before .if1 .left))) (rw (← (sound .2)) (eq-eqb _ _ (c .before .before .if2 .left))) (rw (← (sound .3)) (ne-eqb _ _ (c .if3 .taken))))
+
+returns-5 : tie.Need-returns-5
+unfolding alone
+returns-5 c =
+    let a = c .before .before .before .before .before .before .before .before .before .before .before .before .before .before .args in
+    let s = drop 512 (a .strip .now) in
+    let sound = told _ s _ _ (c .before .before .before .before .before .before .before .before .before .before .before .before .stream-at .ensures) (c .before .before .before .before .before .before .before .before .before .h .given .1) (c .before .before .before .before .before .before .before .before .before .before .before .parse-stream-header .ensures .1) in
+    let long : c .before .before .before .before .before .before .before .stream-length .result ≡ 128 + payload s = rw (← (c .before .before .before .before .before .before .before .before .before .before .before .before .stream-at .ensures)) (c .before .before .before .before .before .before .before .stream-length .ensures .0) in
+    let pay : c .before .before .before .before .before .before .before .stream-length .result - 128 ≡ payload s = omega (arith, long) in
+    let good = lone-by (a .strip .now) (a .full-w) (a .full-h) s true true true (sound .0) (rw (← pay) (sym (c .before .before .before .before .before .before .holds-payload .ensures) ∙ not-false (c .before .before .before .before .before .before .holds-payload .result) (c .before .before .before .before .before .if1 .left))) (rw (← (sound .2)) (eq-eqb _ _ (c .before .before .before .if2 .left))) (rw (← (sound .3)) (eq-eqb _ _ (c .before .if3 .left))) in
+    rw (c .new .ensures) (kept s 512 _ _ _ _ _ _ _ _ good long refl refl (sym (c .before .before .before .if2 .left) ∙ sound .2) (sym (c .before .if3 .left) ∙ sound .3))
+
+pub find-alone-spec : {M : Type 1} → statement M
+find-alone-spec =
+    tie.close
+    (tie.spec
+    (λ c κs. search needs)
+    (λ c κs. search needs)
+    (λ c. search needs)
+    (λ c. search needs)
+    returns
+    stream-length-requires
+    (λ c. search needs)
+    (λ c. search needs)
+    (λ c. search needs)
+    (λ c κs. search needs)
+    returns-2
+    returns-3
+    returns-4
+    (λ c κs. search needs)
+    returns-5)

@@ -1,0 +1,82 @@
+-- `strip::find_table` meets its contract. Assumes nothing.
+use mathlib.Core.Path.{_≡_, sym, ap, _∙_, subst}
+use mathlib.Core.Option.{none}
+use Prim.Native.Nat.{_-_, _≤_}
+use native.Mathlib.Omega.{arith}
+use Rattle.strip.specs.Answers.{records, locatedOf}
+use Rattle.strip.proofs.Records.{Gathered, gathered-none, gathered-on, gathered-all, gathered-fail, no-entries, many-entries, no-table}
+use Rattle.strip.proofs.find_table.Statement.{statement}
+use Rattle.strip.proofs.find_table.Tie as tie
+
+abbrev Inv-loop : tie.InvT-loop
+Inv-loop strip full-w full-h count tiles₀ i₀ tiles i = Gathered strip full-w full-h tiles i × (i ≤ count)
+
+abbrev μ-loop : tie.MeasureT-loop
+μ-loop strip full-w full-h count tiles₀ i₀ tiles i = count - i
+
+returns : tie.Need-returns Inv-loop μ-loop
+unfolding records
+returns c =
+    let a = c .before .before .before .before .args in
+    c .refused .ensures ∙ ap locatedOf (sym (no-table (a .strip .now) (a .full-w) (a .full-h) (c .before .before .le32 .result) (c .before .before .le32 .ensures .0) (no-entries _ (c .before .if1 .taken))))
+
+returns-2 : tie.Need-returns-2 Inv-loop μ-loop
+unfolding records
+returns-2 c =
+    let a = c .before .before .before .before .before .args in
+    c .refused2 .ensures ∙ ap locatedOf (sym (no-table (a .strip .now) (a .full-w) (a .full-h) (c .before .before .before .le32 .result) (c .before .before .before .le32 .ensures .0) (many-entries _ (c .before .if2 .taken))))
+
+loop-holds : tie.Need-loop-holds Inv-loop μ-loop
+unfolding records
+loop-holds c =
+    let a = c .before .before .before .before .before .args in
+    rw (c .none .ensures) (gathered-none (a .strip .now) (a .full-w) (a .full-h), omega arith)
+
+find-entry-requires : tie.Need-find-entry-requires Inv-loop μ-loop
+unfolding records
+find-entry-requires c κs = (c .before .before .before .before .before .before .before .pre, omega arith)
+
+returns-3 : tie.Need-returns-3 Inv-loop μ-loop
+unfolding records
+returns-3 c =
+    let a = c .before .before .before .before .before .before .before .before .before .before .before .args in
+    c .refused3 .ensures
+    ∙ ap locatedOf (sym (gathered-fail (a .strip .now) (a .full-w) (a .full-h) (c .before .before .before .before .before .loop .i) (c .before .before .before .before .before .before .before .before .before .le32 .result) (sym (c .before .before .before .find-entry .ensures) ∙ c .before .enum-told .given .1) (omega arith) (c .before .before .before .before .before .before .before .before .before .le32 .ensures .0)))
+
+loop-again : tie.Need-loop-again Inv-loop μ-loop
+unfolding records
+loop-again c =
+    let a = c .before .before .before .before .before .before .before .before .before .before .before .args in
+    (gathered-on (a .strip .now) (a .full-w) (a .full-h) (c .before .before .before .before .before .loop .tiles) (c .before .before .before .before .before .loop .i) (c .before .tile .given .0 .0) (c .before .before .before .before .before .loop .inv .0) (omega arith) (sym (c .before .before .before .find-entry .ensures) ∙ c .before .tile .given .1), omega arith)
+
+returns-4 : tie.Need-returns-4 Inv-loop μ-loop
+unfolding records
+returns-4 c =
+    let a = c .before .before .before .before .before .before .before .args in
+    let same : c .before .loop .i ≡ c .before .before .before .before .before .le32 .result = omega arith in
+    gathered-all (a .strip .now) (a .full-w) (a .full-h) (c .before .loop .tiles) (c .before .before .before .before .before .le32 .result) (subst (Gathered (a .strip .now) (a .full-w) (a .full-h) (c .before .loop .tiles)) same (c .before .loop .inv .0)) (c .before .before .before .before .before .le32 .ensures .0) (omega arith) (omega arith)
+
+pub find-table-spec : {M : Type 1} → statement M
+find-table-spec =
+    tie.close
+    (tie.spec
+    Inv-loop
+    μ-loop
+    (λ c κs. omega arith)
+    (λ c κs. omega arith)
+    returns
+    (λ c κs. omega arith)
+    returns-2
+    (λ c κs. omega arith)
+    loop-holds
+    find-entry-requires
+    (λ c. omega arith)
+    (λ c. omega arith)
+    (λ c κs. omega arith)
+    returns-3
+    (λ c. omega arith)
+    (λ c. omega arith)
+    (λ c. omega arith)
+    (λ c. omega arith)
+    loop-again
+    returns-4)
