@@ -66,7 +66,7 @@ module _ (strip : List ℕ) (w h : ℕ) where
       ⊎-elim
       (λ low. snoc-last n ∙ ap (λ (r : Option (List Tile)). snoc r (entryTile strip w h n)) (entries-fail i n bad low))
       (λ high. let same : i ≡ n = omega arith in
-        snoc-last n ∙ ap (snoc (entryTiles strip w h 0 n)) (ap (entryTile strip w h) (sym same) ∙ bad) ∙ snoc-none (entryTiles strip w h 0 n))
+      snoc-last n ∙ ap (snoc (entryTiles strip w h 0 n)) (ap (entryTile strip w h) (sym same) ∙ bad) ∙ snoc-none (entryTiles strip w h 0 n))
       (le-or-lt (suc i) n)
 
 -- the first record after the tiles is the next tile's
@@ -96,8 +96,7 @@ Held r tiles i = (r ≡ some (got r)) × (length (got r) ≡ i) × (tiles ≡ re
 held-on : (r : Option (List Tile)) (o : Option Tile) (tiles : List TileStream) (i : ℕ) (t : TileStream)
     → Held r tiles i → i < 16 → answerOf o ≡ answer.Tile t → Held (snoc r o) (set tiles i t) (i + 1)
 held-on (some ts) (some u) tiles i t (e, long, same) h found =
-    let tile : streamOf u ≡ t = ap tileIn found in
-    (
+    let tile : streamOf u ≡ t = ap tileIn found in (
       refl,
       length-append ts (u ∷ []) ∙ ap (λ (n : ℕ). n + 1) long,
       rw (same, ← tile, ← long) (records-put 16 ts u (omega (arith, long))),

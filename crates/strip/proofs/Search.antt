@@ -8,9 +8,9 @@ use native.Mathlib.Omega.{arith}
 use borrow.Author.Tests.{le-leb, ne-eqb}
 use lib.Dec.{leb, eqb}
 use lib.ListN.{length, drop}
-use Rattle.format.specs.Strip.{Tile, validHeader, width, codedHeight, payload, unless0, word, fits, onlyIf, tileAt, orElse, firstTaken}
+use Rattle.format.specs.Strip.{Tile, validHeader, width, codedHeight, payload, unless0, word, fits, onlyIf, tileAt, orElse, firstTaken, listed}
 use Rattle.strip.specs.declared.LocatedTile.the-variants as answer
-use Rattle.strip.specs.Answers.{stream, answerOf, answerNumber, placed, Sound}
+use Rattle.strip.specs.Answers.{stream, answerOf, answerNumber, placed, locatedOf, Sound}
 use Rattle.strip.specs.declared.Header.{Header}
 use Rattle.strip.specs.declared.StreamHeader.{StreamHeader}
 use Rattle.strip.specs.declared.StreamHeader.the-variants.{Valid, Invalid}
@@ -24,6 +24,11 @@ module _ (s : List ℕ) (at n x y W H x' y' : ℕ) where
   pub kept : (b : Bool) → b ≡ true → n ≡ 128 + payload s → x ≡ x' → y ≡ y' → W ≡ width s → H ≡ codedHeight s
       → answer.Tile (stream at n x y W H) ≡ answerOf (onlyIf b (tileAt s at x' y'))
   kept b e long across down wide high = rw (e, long, across, down, wide, high) refl
+
+-- the number of each answer is that of the strip that has no other
+pub number-is : (o : Option Tile) → answerNumber (answerOf o) ≡ locatedOf (listed o) .refusal
+number-is (some t) = refl
+number-is none = refl
 
 -- a tile that is taken ends the search, nothing passes it on
 pub hit : (o rest : Option Tile) {t : _} → answerOf o ≡ answer.Tile t → answerOf (orElse o rest) ≡ answer.Tile t
@@ -65,7 +70,7 @@ pub told : (l s : List ℕ) (r : StreamHeader) (h : Header) → l ≡ s → r �
 told l s r h e f k = subst (λ (x : List ℕ). Sound x (Valid h)) e (subst (Sound l) f k)
 
 pub told-not : (l s : List ℕ) (r : StreamHeader) → l ≡ s → r ≡ Invalid → Sound l r → validHeader s ≡ false
-told-not l s r e f k = subst (λ (x : List ℕ). validHeader x ≡ false) e (subst (Sound l) f k)
+told-not l s r e f k = subst (λ (x : List ℕ). validHeader x ≡ false) e (subst (Sound l) f k .0)
 
 -- ---- the candidates in turn, up to an end
 

@@ -2,12 +2,13 @@
 use mathlib.Core.Path.{_≡_}
 use mathlib.Core.List.{List, [], _∷_}
 use mathlib.Core.Option.{Option, none, some}
-use mathlib.Core.Bool.{Bool, true, false, cond, _&&_}
+use mathlib.Core.Bool.{Bool, true, false, not, cond, _&&_}
 use Prim.Native.Nat.{ℕ, zero, suc, _+_, _*_, _^_, _≤_, _<_}
 use lib.Dec.{leb, eqb}
 use lib.ListN.{length, getD}
 use Rattle.format.specs.Bits.{little32}
 use Rattle.format.specs.Strip as strip
+use Rattle.format.specs.Refusals.{on}
 use Rattle.format.specs.Strip.{Tile, validHeader, unless0, word, hasTable, entryTiles, tableOr}
 use Rattle.strip.specs.declared.TileStream.{TileStream}
 use Rattle.strip.specs.declared.Header.{Header}
@@ -27,10 +28,16 @@ header false h = Invalid
 unfoldable pub headerOf : List ℕ → StreamHeader
 headerOf s = header (validHeader s) (record { width = strip.width s; height = strip.codedHeight s })
 
+-- the number of a header's check: 2, header invalid
+abbrev pub headerRefusal : List ℕ → ℕ
+headerRefusal s = on (not (validHeader s)) 2
+
 -- what each answer says of a stream: no refusal, w and H; or refusal 2
 abbrev pub Sound : List ℕ → StreamHeader → Type 0
-Sound s (Valid h) = (validHeader s ≡ true) × (128 ≤ length s) × (h .width ≡ strip.width s) × (h .height ≡ strip.codedHeight s) × (h .width < 2 ^ 16) × (h .height < 2 ^ 17)
-Sound s Invalid = validHeader s ≡ false
+Sound s (Valid h) =
+    (validHeader s ≡ true) × (128 ≤ length s) × (h .width ≡ strip.width s) × (h .height ≡ strip.codedHeight s)
+    × (h .width < 2 ^ 16) × (h .height < 2 ^ 17) × (headerRefusal s ≡ 0)
+Sound s Invalid = (validHeader s ≡ false) × (headerRefusal s ≡ 2)
 
 -- ---- the tiles
 

@@ -6,13 +6,15 @@ ghost use mathlib.Core.List.{List, []};
 ghost use lib.Dec.{leb, eqb};
 ghost use lib.ListN.{length, getD, drop};
 ghost use Rattle.format.specs.Bits.{little32};
-ghost use Rattle.format.specs.Strip.{magic, sides, marks, width, codedHeight, halfHeight, groupSize, payload, unless0, word, entryStart, candidate, entryTile, alone, tilesOf};
+ghost use Rattle.format.specs.Strip.{magic, sides, marks, width, codedHeight, halfHeight, groupSize, payload, unless0, word, entryStart, candidate, entryTile, alone, listed, tilesOf};
 ghost use Rattle.strip.specs.Answers.{headerOf, Sound, stream, zeroStream, answerOf, answerNumber, placed, locatedOf, tableTiles, streamFields, tileField};
 use words::field;
 
 // The most tiles that a strip's table lists, and the steps and the reach of the search for an entry's header.
 pub const TILES: usize = 16;
+
 const STEP: usize = 16;
+
 const REACH: usize = 4096;
 
 // A tile stream inside the strip.
@@ -28,21 +30,44 @@ pub struct TileStream {
 impl TileStream {
     // Where a stream's directory and its first packet start, and where a strip's only tile does.
     pub const DIRECTORY: usize = 48;
+
     pub const HEADER: usize = 128;
+
     pub const OFFSET: usize = 512;
 
     // A tile record.
-    pub fn new(offset: usize, length: usize, x: usize, y: usize, width: usize, height: usize) -> Self
+    pub fn new(
+        offset: usize,
+        length: usize,
+        x: usize,
+        y: usize,
+        width: usize,
+        height: usize,
+    ) -> Self
         ensures { λ r. ⌜ r ≡ stream offset length x y width height ⌝ }
     {
-        Self { offset, length, x, y, width, height }
+        Self {
+            offset,
+            length,
+            x,
+            y,
+            width,
+            height,
+        }
     }
 
     // The record with every field 0.
     pub fn none() -> Self
         ensures { λ r. ⌜ r ≡ zeroStream ⌝ }
     {
-        Self { offset: 0, length: 0, x: 0, y: 0, width: 0, height: 0 }
+        Self {
+            offset: 0,
+            length: 0,
+            x: 0,
+            y: 0,
+            width: 0,
+            height: 0,
+        }
     }
 
     // Field 0 to 5 in their order; any other is 0.
@@ -52,7 +77,14 @@ impl TileStream {
         if 6 <= field {
             return 0;
         }
-        let fields = [self.offset, self.length, self.x, self.y, self.width, self.height];
+        let fields = [
+            self.offset,
+            self.length,
+            self.x,
+            self.y,
+            self.width,
+            self.height,
+        ];
         fields[field]
     }
 }
@@ -183,7 +215,10 @@ pub fn le32(strip: &[u8], at: usize) -> usize
     requires { ⌜ at + 4 ≤ length (now strip) ⌝ }
     ensures { λ r. ⌜ (r ≡ little32 (now (strip .entry)) at) × (r < 2 ^ 32) ⌝ }
 {
-    byte(strip, at) + byte(strip, at + 1) * 0x100 + byte(strip, at + 2) * 0x1_0000 + byte(strip, at + 3) * 0x100_0000
+    byte(strip, at)
+        + byte(strip, at + 1) * 0x100
+        + byte(strip, at + 2) * 0x1_0000
+        + byte(strip, at + 3) * 0x100_0000
 }
 
 // Word k of entry i of the table.
@@ -200,7 +235,11 @@ fn entry_start(strip: &[u8], i: usize) -> usize
     ensures { λ r. ⌜ (r ≡ entryStart (now (strip .entry)) i) × (r < 2 ^ 32) ⌝ }
 {
     let start = entry_word(strip, i, 0);
-    if start == 0 { TileStream::OFFSET } else { start }
+    if start == 0 {
+        TileStream::OFFSET
+    } else {
+        start
+    }
 }
 
 // A side of the table is the header's, or 0.
@@ -265,7 +304,11 @@ fn examine(strip: &[u8], full_w: usize, full_h: usize, i: usize, at: usize) -> L
         return LocatedTile::Nothing;
     };
     let length = stream_length(stream);
-    if !holds_payload(strip.len() - at - TileStream::HEADER, length - TileStream::HEADER, 1) {
+    if !holds_payload(
+        strip.len() - at - TileStream::HEADER,
+        length - TileStream::HEADER,
+        1,
+    ) {
         return LocatedTile::Nothing;
     }
     if !fits_frame(strip, full_w, full_h, i, h) {
@@ -304,13 +347,18 @@ fn find_entry(strip: &[u8], full_w: usize, full_h: usize, i: usize) -> LocatedTi
 fn find_alone(strip: &[u8], full_w: usize, full_h: usize) -> LocatedTile
     requires { ⌜ 640 ≤ length (now strip) ⌝ }
     ensures { λ r. ⌜ r ≡ answerOf (alone (now (strip .entry)) «full_w» «full_h») ⌝ }
+    ensures { λ r. ⌜ answerNumber r ≡ locatedOf (listed (alone (now (strip .entry)) «full_w» «full_h»)) .refusal ⌝ }
 {
     let stream = stream_at(strip, TileStream::OFFSET);
     let StreamHeader::Valid(h) = parse_stream_header(stream) else {
         return LocatedTile::Nothing;
     };
     let length = stream_length(stream);
-    if !holds_payload(strip.len() - TileStream::OFFSET - TileStream::HEADER, length - TileStream::HEADER, 0) {
+    if !holds_payload(
+        strip.len() - TileStream::OFFSET - TileStream::HEADER,
+        length - TileStream::HEADER,
+        0,
+    ) {
         return LocatedTile::Nothing;
     }
     if h.width != full_w {
@@ -328,7 +376,11 @@ impl Located {
         ensures { λ r. ⌜ r ≡ locatedOf [] ⌝ }
     {
         let none = TileStream::none();
-        Self { refusal: 1, count: 0, tiles: [none; 16] }
+        Self {
+            refusal: 1,
+            count: 0,
+            tiles: [none; 16],
+        }
     }
 }
 
@@ -354,7 +406,11 @@ fn find_table(strip: &[u8], full_w: usize, full_h: usize) -> Located
         tiles[i] = tile;
         i += 1;
     }
-    Located { refusal: 0, count, tiles }
+    Located {
+        refusal: 0,
+        count,
+        tiles,
+    }
 }
 
 // Locate the tile streams of a strip that covers a frame of full_w by full_h.
@@ -380,7 +436,11 @@ pub fn find_streams(strip: &[u8], full_w: usize, full_h: usize) -> Located
     let none = TileStream::none();
     let mut tiles = [none; 16];
     tiles[0] = tile;
-    Located { refusal: 0, count: 1, tiles }
+    Located {
+        refusal: 0,
+        count: 1,
+        tiles,
+    }
 }
 
 // How many tiles a strip has.

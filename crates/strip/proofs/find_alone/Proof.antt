@@ -1,5 +1,5 @@
 -- `strip::find_alone` meets its contract. Assumes nothing.
-use mathlib.Core.Path.{_≡_, refl, sym, _∙_}
+use mathlib.Core.Path.{_≡_, refl, sym, ap, _∙_}
 use mathlib.Core.Bool.{true, false}
 use Prim.Native.Nat.{_+_, _-_}
 use native.Mathlib.Omega.{arith}
@@ -8,7 +8,10 @@ use borrow.Author.Tests.{eq-eqb, ne-eqb, not-true, not-false}
 use lib.ListN.{drop}
 use lib.Dec.{eqb}
 use Rattle.format.specs.Strip.{width, codedHeight, payload, alone}
-use Rattle.strip.proofs.Search.{dropped, kept, told, told-not, lone-invalid, lone-by}
+use Rattle.strip.specs.declared.LocatedTile.the-variants as answer
+use Rattle.strip.specs.Answers.{answerOf, answerNumber}
+use Rattle.strip.proofs.Search.{dropped, kept, told, told-not, lone-invalid, lone-by, number-is}
+use Rattle.strip.specs.declared.LocatedTile.{LocatedTile}
 use Rattle.strip.proofs.find_alone.Statement.{statement}
 use Rattle.strip.proofs.find_alone.Tie as tie
 
@@ -16,7 +19,8 @@ returns : tie.Need-returns
 unfolding alone
 returns c =
     let a = c .before .before .before .before .before .args in
-    dropped _ _ (lone-invalid (a .strip .now) (a .full-w) (a .full-h) _ (told-not _ _ _ (c .before .before .before .stream-at .ensures) (c .enum-told .given .1) (c .before .before .parse-stream-header .ensures .1)))
+    let same : _≡_ {A = LocatedTile} answer.Nothing (answerOf (alone (a .strip .now) (a .full-w) (a .full-h))) = dropped _ _ (lone-invalid (a .strip .now) (a .full-w) (a .full-h) _ (told-not _ _ _ (c .before .before .before .stream-at .ensures) (c .enum-told .given .1) (c .before .before .parse-stream-header .ensures .1))) in
+    (same, ap answerNumber same ∙ number-is (alone (a .strip .now) (a .full-w) (a .full-h)))
 
 stream-length-requires : tie.Need-stream-length-requires
 unfolding alone
@@ -29,7 +33,8 @@ returns-2 c =
     let s = drop 512 (a .strip .now) in
     let sound = told _ s _ _ (c .before .before .before .before .before .before .before .stream-at .ensures) (c .before .before .before .before .h .given .1) (c .before .before .before .before .before .before .parse-stream-header .ensures .1) in
     let pay : c .before .before .stream-length .result - 128 ≡ payload s = rw (← (c .before .before .before .before .before .before .before .stream-at .ensures)) (omega (arith, c .before .before .stream-length .ensures .0)) in
-    dropped _ _ (lone-by (a .strip .now) (a .full-w) (a .full-h) s false (eqb (width s) (a .full-w)) (eqb (codedHeight s) (a .full-h)) (sound .0) (rw (← pay) (sym (c .before .holds-payload .ensures) ∙ not-true (c .before .holds-payload .result) (c .if1 .taken))) refl refl)
+    let same : _≡_ {A = LocatedTile} answer.Nothing (answerOf (alone (a .strip .now) (a .full-w) (a .full-h))) = dropped _ _ (lone-by (a .strip .now) (a .full-w) (a .full-h) s false (eqb (width s) (a .full-w)) (eqb (codedHeight s) (a .full-h)) (sound .0) (rw (← pay) (sym (c .before .holds-payload .ensures) ∙ not-true (c .before .holds-payload .result) (c .if1 .taken))) refl refl) in
+    (same, ap answerNumber same ∙ number-is (alone (a .strip .now) (a .full-w) (a .full-h)))
 
 returns-3 : tie.Need-returns-3
 unfolding alone
@@ -38,7 +43,8 @@ returns-3 c =
     let s = drop 512 (a .strip .now) in
     let sound = told _ s _ _ (c .before .before .before .before .before .before .before .before .before .stream-at .ensures) (c .before .before .before .before .before .before .h .given .1) (c .before .before .before .before .before .before .before .before .parse-stream-header .ensures .1) in
     let pay : c .before .before .before .before .stream-length .result - 128 ≡ payload s = rw (← (c .before .before .before .before .before .before .before .before .before .stream-at .ensures)) (omega (arith, c .before .before .before .before .stream-length .ensures .0)) in
-    dropped _ _ (lone-by (a .strip .now) (a .full-w) (a .full-h) s true false (eqb (codedHeight s) (a .full-h)) (sound .0) (rw (← pay) (sym (c .before .before .before .holds-payload .ensures) ∙ not-false (c .before .before .before .holds-payload .result) (c .before .before .if1 .left))) (rw (← (sound .2)) (ne-eqb _ _ (c .if2 .taken))) refl)
+    let same : _≡_ {A = LocatedTile} answer.Nothing (answerOf (alone (a .strip .now) (a .full-w) (a .full-h))) = dropped _ _ (lone-by (a .strip .now) (a .full-w) (a .full-h) s true false (eqb (codedHeight s) (a .full-h)) (sound .0) (rw (← pay) (sym (c .before .before .before .holds-payload .ensures) ∙ not-false (c .before .before .before .holds-payload .result) (c .before .before .if1 .left))) (rw (← (sound .2)) (ne-eqb _ _ (c .if2 .taken))) refl) in
+    (same, ap answerNumber same ∙ number-is (alone (a .strip .now) (a .full-w) (a .full-h)))
 
 returns-4 : tie.Need-returns-4
 unfolding alone
@@ -47,7 +53,8 @@ returns-4 c =
     let s = drop 512 (a .strip .now) in
     let sound = told _ s _ _ (c .before .before .before .before .before .before .before .before .before .before .before .stream-at .ensures) (c .before .before .before .before .before .before .before .before .h .given .1) (c .before .before .before .before .before .before .before .before .before .before .parse-stream-header .ensures .1) in
     let pay : c .before .before .before .before .before .before .stream-length .result - 128 ≡ payload s = rw (← (c .before .before .before .before .before .before .before .before .before .before .before .stream-at .ensures)) (omega (arith, c .before .before .before .before .before .before .stream-length .ensures .0)) in
-    dropped _ _ (lone-by (a .strip .now) (a .full-w) (a .full-h) s true true false (sound .0) (rw (← pay) (sym (c .before .before .before .before .before .holds-payload .ensures) ∙ not-false (c .before .before .before .before .before .holds-payload .result) (c .before .before .before .before .if1 .left))) (rw (← (sound .2)) (eq-eqb _ _ (c .before .before .if2 .left))) (rw (← (sound .3)) (ne-eqb _ _ (c .if3 .taken))))
+    let same : _≡_ {A = LocatedTile} answer.Nothing (answerOf (alone (a .strip .now) (a .full-w) (a .full-h))) = dropped _ _ (lone-by (a .strip .now) (a .full-w) (a .full-h) s true true false (sound .0) (rw (← pay) (sym (c .before .before .before .before .before .holds-payload .ensures) ∙ not-false (c .before .before .before .before .before .holds-payload .result) (c .before .before .before .before .if1 .left))) (rw (← (sound .2)) (eq-eqb _ _ (c .before .before .if2 .left))) (rw (← (sound .3)) (ne-eqb _ _ (c .if3 .taken)))) in
+    (same, ap answerNumber same ∙ number-is (alone (a .strip .now) (a .full-w) (a .full-h)))
 
 returns-5 : tie.Need-returns-5
 unfolding alone
@@ -58,7 +65,8 @@ returns-5 c =
     let long : c .before .before .before .before .before .before .before .stream-length .result ≡ 128 + payload s = rw (← (c .before .before .before .before .before .before .before .before .before .before .before .before .stream-at .ensures)) (c .before .before .before .before .before .before .before .stream-length .ensures .0) in
     let pay : c .before .before .before .before .before .before .before .stream-length .result - 128 ≡ payload s = omega (arith, long) in
     let good = lone-by (a .strip .now) (a .full-w) (a .full-h) s true true true (sound .0) (rw (← pay) (sym (c .before .before .before .before .before .before .holds-payload .ensures) ∙ not-false (c .before .before .before .before .before .before .holds-payload .result) (c .before .before .before .before .before .if1 .left))) (rw (← (sound .2)) (eq-eqb _ _ (c .before .before .before .if2 .left))) (rw (← (sound .3)) (eq-eqb _ _ (c .before .if3 .left))) in
-    rw (c .new .ensures) (kept s 512 _ _ _ _ _ _ _ _ good long refl refl (sym (c .before .before .before .if2 .left) ∙ sound .2) (sym (c .before .if3 .left) ∙ sound .3))
+    let same : _≡_ {A = LocatedTile} (answer.Tile (c .new .result)) (answerOf (alone (a .strip .now) (a .full-w) (a .full-h))) = rw (c .new .ensures) (kept s 512 _ _ _ _ _ _ _ _ good long refl refl (sym (c .before .before .before .if2 .left) ∙ sound .2) (sym (c .before .if3 .left) ∙ sound .3)) in
+    (same, ap answerNumber same ∙ number-is (alone (a .strip .now) (a .full-w) (a .full-h)))
 
 pub find-alone-spec : {M : Type 1} → statement M
 find-alone-spec =

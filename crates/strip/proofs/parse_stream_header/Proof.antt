@@ -1,6 +1,6 @@
 -- `strip::parse_stream_header` meets its contract. Assumes nothing.
-use mathlib.Core.Path.{_≡_, ap}
-use mathlib.Core.Bool.{true}
+use mathlib.Core.Path.{_≡_, refl, ap}
+use mathlib.Core.Bool.{true, false}
 use Prim.Native.Nat.{ℕ, _*_}
 use native.Mathlib.Omega.{arith}
 use borrow.Author.Needs.{needs}
@@ -12,20 +12,24 @@ use Rattle.strip.proofs.parse_stream_header.Tie as tie
 
 returns : tie.Need-returns
 unfolding headerOf validHeader
-returns c = (simp (lt-leb _ _ (c .if1 .taken)), simp (lt-leb _ _ (c .if1 .taken)))
+returns c =
+    let bad : validHeader (c .before .before .args .stream .now) ≡ false = simp (lt-leb _ _ (c .if1 .taken)) in
+    (simp (bad), (bad, rw bad refl))
 
 returns-2 : tie.Need-returns-2
 unfolding headerOf validHeader
 returns-2 c =
     let bad = not-true (c .before .is-magic .result) (c .if2 .taken) in
-    (simp (le-leb _ _ (c .before .before .if1 .left), ← (c .before .is-magic .ensures), bad), simp (le-leb _ _ (c .before .before .if1 .left), ← (c .before .is-magic .ensures), bad))
+    let invalid : validHeader (c .before .before .before .before .args .stream .now) ≡ false = simp (le-leb _ _ (c .before .before .if1 .left), ← (c .before .is-magic .ensures), bad) in
+    (simp (invalid), (invalid, rw invalid refl))
 
 returns-3 : tie.Need-returns-3
 unfolding headerOf validHeader
 returns-3 c =
     let ok = not-false (c .before .before .before .is-magic .result) (c .before .before .if2 .left) in
     let bad = not-true (c .before .has-sides .result) (c .if3 .taken) in
-    (simp (le-leb _ _ (c .before .before .before .before .if1 .left), ← (c .before .before .before .is-magic .ensures), ok, ← (c .before .has-sides .ensures), bad), simp (le-leb _ _ (c .before .before .before .before .if1 .left), ← (c .before .before .before .is-magic .ensures), ok, ← (c .before .has-sides .ensures), bad))
+    let invalid : validHeader (c .before .before .before .before .before .before .args .stream .now) ≡ false = simp (le-leb _ _ (c .before .before .before .before .if1 .left), ← (c .before .before .before .is-magic .ensures), ok, ← (c .before .has-sides .ensures), bad) in
+    (simp (invalid), (invalid, rw invalid refl))
 
 returns-4 : tie.Need-returns-4
 unfolding headerOf validHeader
@@ -33,7 +37,8 @@ returns-4 c =
     let ok = not-false (c .before .before .before .before .before .is-magic .result) (c .before .before .before .before .if2 .left) in
     let even = not-false (c .before .before .before .has-sides .result) (c .before .before .if3 .left) in
     let bad = not-true (c .before .has-marks .result) (c .if4 .taken) in
-    (simp (le-leb _ _ (c .before .before .before .before .before .before .if1 .left), ← (c .before .before .before .before .before .is-magic .ensures), ok, ← (c .before .before .before .has-sides .ensures), even, ← (c .before .has-marks .ensures), bad), simp (le-leb _ _ (c .before .before .before .before .before .before .if1 .left), ← (c .before .before .before .before .before .is-magic .ensures), ok, ← (c .before .before .before .has-sides .ensures), even, ← (c .before .has-marks .ensures), bad))
+    let invalid : validHeader (c .before .before .before .before .before .before .before .before .args .stream .now) ≡ false = simp (le-leb _ _ (c .before .before .before .before .before .before .if1 .left), ← (c .before .before .before .before .before .is-magic .ensures), ok, ← (c .before .before .before .has-sides .ensures), even, ← (c .before .has-marks .ensures), bad) in
+    (simp (invalid), (invalid, rw invalid refl))
 
 returns-5 : tie.Need-returns-5
 unfolding headerOf validHeader
@@ -42,7 +47,7 @@ returns-5 c =
     let even = not-false (c .before .before .before .before .before .has-sides .result) (c .before .before .before .before .if3 .left) in
     let marked = not-false (c .before .before .before .has-marks .result) (c .before .before .if4 .left) in
     let all : validHeader (c .before .before .before .before .before .before .before .before .before .before .args .stream .now) ≡ true = simp (le-leb _ _ (c .before .before .before .before .before .before .before .before .if1 .left), ← (c .before .before .before .before .before .before .before .is-magic .ensures), ok, ← (c .before .before .before .before .before .has-sides .ensures), even, ← (c .before .before .before .has-marks .ensures), marked) in
-    (simp (all, ← (c .before .field .ensures .0), ← (c .field2 .ensures .0)), (all, omega arith, c .before .field .ensures .0, ap (λ (n : ℕ). n * 2) (c .field2 .ensures .0), c .before .field .ensures .1, omega (arith, c .field2 .ensures .1)))
+    (simp (all, ← (c .before .field .ensures .0), ← (c .field2 .ensures .0)), (all, omega arith, c .before .field .ensures .0, ap (λ (n : ℕ). n * 2) (c .field2 .ensures .0), c .before .field .ensures .1, omega (arith, c .field2 .ensures .1), rw all refl))
 
 pub parse-stream-header-spec : {M : Type 1} → statement M
 parse-stream-header-spec =
