@@ -13,7 +13,7 @@ use Rattle.strip.specs.Answers.{zeroStream, streamFields, fieldsAt}
 -- at most k decimal digits of n, the most significant first
 unfoldable pub digits : ℕ → ℕ → List ℕ
 digits zero n = []
-digits (suc k) n = cond (ltb n 10) (48 + n ∷ []) (digits k (n / 10) ++ 48 + n % 10 ∷ [])
+digits (suc k) n = cond (ltb n 10) ((48 + n) ∷ []) (digits k (n / 10) ++ ((48 + n % 10) ∷ []))
 
 -- n in decimal; every number of 64 bits has at most 20 digits
 unfoldable pub decimal : ℕ → List ℕ
@@ -21,7 +21,7 @@ decimal n = digits 20 n
 
 -- a number and the byte after it
 abbrev pub ended : ℕ → ℕ → List ℕ
-ended n end = decimal n ++ end ∷ []
+ended n end = decimal n ++ (end ∷ [])
 
 -- numbers on a line, a space between them
 abbrev pub line : List ℕ → List ℕ

@@ -4,8 +4,9 @@ ghost use mathlib.Core.List.{List, [], _∷_};
 ghost use Prim.Native.Nat.{ℕ, _+_, _≤_, _<_};
 ghost use lib.ListN.{length};
 ghost use Rattle.lists.specs.Lists.{putAt, rows};
+ghost use Rattle.format.specs.Strip.{tilesOf};
 ghost use Rattle.strip.specs.Answers.{streamFields};
-ghost use Rattle.listing.specs.Listing.{decimal, ended, line, lineAt, response};
+ghost use Rattle.listing.specs.Listing.{decimal, ended, line, lineAt, listing, response};
 use strip::Located;
 use strip::TileStream;
 
@@ -44,7 +45,8 @@ fn put_number(out: &mut [u8], at: usize, n: usize) -> usize
 // A number and the byte after it.
 fn put_field(out: &mut [u8], at: usize, n: usize, end: u8) -> usize
     requires { ⌜ at + 21 ≤ length (now out) ⌝ }
-    ensures { λ r. ⌜ (r ≡ at + length (ended n end)) × (r ≤ at + 21) × (now (out .exit) ≡ putAt (now (out .entry)) at (ended n end)) ⌝ }
+    ensures { λ r. ⌜ (r ≡ at + length (ended n end)) × (now (out .exit) ≡ putAt (now (out .entry)) at (ended n end)) ⌝ }
+    ensures { λ r. ⌜ r ≤ at + 21 ⌝ }
 {
     let next = put_number(out, at, n);
     put(out, next, end)
@@ -53,7 +55,8 @@ fn put_field(out: &mut [u8], at: usize, n: usize, end: u8) -> usize
 // The line of a tile.
 fn put_tile(out: &mut [u8], at: usize, tile: TileStream) -> usize
     requires { ⌜ at + 126 ≤ length (now out) ⌝ }
-    ensures { λ r. ⌜ (r ≡ at + length (line (streamFields tile))) × (r ≤ at + 126) × (now (out .exit) ≡ putAt (now (out .entry)) at (line (streamFields tile))) ⌝ }
+    ensures { λ r. ⌜ (r ≡ at + length (line (streamFields tile))) × (now (out .exit) ≡ putAt (now (out .entry)) at (line (streamFields tile))) ⌝ }
+    ensures { λ r. ⌜ r ≤ at + 126 ⌝ }
 {
     let offset = put_field(out, at, tile.offset, b' ');
     let length = put_field(out, offset, tile.length, b' ');
@@ -67,6 +70,7 @@ fn put_tile(out: &mut [u8], at: usize, tile: TileStream) -> usize
 fn put_tiles(out: &mut [u8], at: usize, located: Located) -> usize
     requires { ⌜ (at + 2016 ≤ length (now out)) × (located .count ≤ 16) × (length (located .tiles) ≡ 16) ⌝ }
     ensures { λ r. ⌜ (r ≡ at + length (rows (located .count) (lineAt (located .tiles)))) × (now (out .exit) ≡ putAt (now (out .entry)) at (rows (located .count) (lineAt (located .tiles)))) ⌝ }
+    ensures { λ r. ⌜ r ≤ at + 2016 ⌝ }
 {
     let mut next = at;
     let mut i = 0;
@@ -94,6 +98,8 @@ fn put_bytes(out: &mut [u8], at: usize, text: &[u8]) -> usize
 // The listing of a strip in a frame.
 fn list_tiles(strip: &[u8], full_w: usize, full_h: usize, out: &mut [u8]) -> usize
     requires { ⌜ 4096 ≤ length (now out) ⌝ }
+    ensures { λ r. ⌜ (r ≡ length (listing (tilesOf (now (strip .entry)) «full_w» «full_h»))) × (now (out .exit) ≡ putAt (now (out .entry)) 0 (listing (tilesOf (now (strip .entry)) «full_w» «full_h»))) ⌝ }
+    ensures { λ r. ⌜ r ≤ 4096 ⌝ }
 {
     let located = strip::find_streams(strip, full_w, full_h);
     let title = put_bytes(out, 0, b"tiles ");
@@ -102,7 +108,10 @@ fn list_tiles(strip: &[u8], full_w: usize, full_h: usize, out: &mut [u8]) -> usi
 }
 
 // What the program prints for an input.
-pub fn respond(input: &[u8], out: &mut [u8; 4096]) -> usize {
+pub fn respond(input: &[u8], out: &mut [u8; 4096]) -> usize
+    ensures { λ r. ⌜ (r ≡ length (response (now (input .entry)))) × (r ≤ length (now (out .exit))) ⌝ }
+    ensures { λ r. ⌜ now (out .exit) ≡ putAt (now (out .entry)) 0 (response (now (input .entry))) ⌝ }
+{
     if MOST < input.len() {
         return put_bytes(out, 0, b"too long\n");
     }
