@@ -59,8 +59,8 @@ digits-same zero n h = digits-few 0 n (omega arith) ∙ sym (digits-few 1 n (ome
 digits-same (suc k) n h =
     ⊎-elim
     (λ large. digits-more (suc k) n large
-      ∙ ap (λ (l : List ℕ). l ++ ((48 + n % 10) ∷ [])) (digits-same k (n / 10) (tenth k n h))
-      ∙ sym (digits-more (suc (suc k)) n large))
+    ∙ ap (λ (l : List ℕ). l ++ ((48 + n % 10) ∷ [])) (digits-same k (n / 10) (tenth k n h))
+    ∙ sym (digits-more (suc (suc k)) n large))
     (λ small. digits-few (suc k) n small ∙ sym (digits-few (suc (suc k)) n small))
     (le-or-lt 10 n)
   where

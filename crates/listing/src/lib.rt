@@ -7,11 +7,14 @@ ghost use Rattle.lists.specs.Lists.{putAt, rows};
 ghost use Rattle.format.specs.Strip.{tilesOf};
 ghost use Rattle.strip.specs.Answers.{streamFields};
 ghost use Rattle.listing.specs.Listing.{decimal, ended, line, lineAt, listing, response};
+use libc::STDIN_FILENO;
+use libc::STDOUT_FILENO;
 use strip::Located;
 use strip::TileStream;
 
 // The longest input, and the bytes before the strip.
 const MOST: usize = 65536;
+
 const SIDES: usize = 8;
 
 fn put(out: &mut [u8], at: usize, b: u8) -> usize
@@ -121,4 +124,13 @@ pub fn respond(input: &[u8], out: &mut [u8; 4096]) -> usize
     let full_w = strip::le32(input, 0);
     let full_h = strip::le32(input, 4);
     list_tiles(&input[SIDES..], full_w, full_h, out)
+}
+
+// Answer standard input, however it is cut into reads, on standard output.
+pub fn run() {
+    let mut input = [0u8; 65537];
+    let n = io::read_full(STDIN_FILENO, &mut input);
+    let mut out = [0u8; 4096];
+    let length = respond(&input[..n], &mut out);
+    io::write_all(STDOUT_FILENO, &out[..length]);
 }

@@ -75,7 +75,7 @@ put-number-put-number-requires : (t : ℕ) → put-number-lts.Need-put-number-re
   put-number-below t,
   put-number.Post,
 ) (put-number-at t) put-number.Post
-put-number-put-number-requires t c κs = 
+put-number-put-number-requires t c κs =
     let a = c .before .before .before .args in
     let m = decimal-more (a .n) (c .before .if1 .left) (omega arith) in
     (omega (arith, c .before .before .before .pre .0, c .before .if1 .left), omega (arith, ap length m, length-append (decimal (a .n / 10)) ((48 + a .n % 10) ∷ []), c .before .before .before .pre .1))
@@ -98,7 +98,7 @@ put-number-put-requires-2 : (t : ℕ) → put-number-lts.Need-put-requires-2 (
   put-number-below t,
   put-number.Post,
 ) (put-number-at t) put-number.Post
-put-number-put-requires-2 t c κs = 
+put-number-put-requires-2 t c κs =
     let a = c .before .before .before .before .before .before .before .before .args in
     let m = decimal-more (a .n) (c .before .before .before .before .before .before .if1 .left) (omega arith) in
     omega (arith, ap length m, length-append (decimal (a .n / 10)) ((48 + a .n % 10) ∷ []), c .before .before .before .before .before .before .before .before .pre .1, c .before .before .before .before .put-number .ensures .0, c .before .before .before .before .put-number .kept .0)
@@ -121,7 +121,7 @@ put-number-returns-2 : (t : ℕ) → put-number-lts.Need-returns-2 (
   put-number-below t,
   put-number.Post,
 ) (put-number-at t) put-number.Post
-put-number-returns-2 t c = 
+put-number-returns-2 t c =
     let a = c .before .before .before .before .before .before .before .before .before .before .before .args in
     let m = decimal-more (a .n) (c .before .before .before .before .before .before .before .before .before .if1 .left) (omega arith) in
     rw (m, ← (c .before .before .before .digit2 .ensures)) (put-on (a .out .now) _ _ (decimal (a .n / 10)) (c .before .before .before .digit2 .result ∷ []) (a .at) _ _ (c .before .before .before .before .before .before .before .put-number .ensures) (c .before .before .put2 .ensures) (omega (arith, ap length m, length-append (decimal (a .n / 10)) ((48 + a .n % 10) ∷ []), c .before .before .before .before .before .before .before .before .before .before .before .pre .1, c .before .before .before .before .before .before .before .put-number .ensures .0)))
