@@ -215,10 +215,11 @@ pub fn le32(strip: &[u8], at: usize) -> usize
     requires { ⌜ at + 4 ≤ length (now strip) ⌝ }
     ensures { λ r. ⌜ (r ≡ little32 (now (strip .entry)) at) × (r < 2 ^ 32) ⌝ }
 {
-    byte(strip, at)
-        + byte(strip, at + 1) * 0x100
-        + byte(strip, at + 2) * 0x1_0000
-        + byte(strip, at + 3) * 0x100_0000
+    let a = byte(strip, at);
+    let b = byte(strip, at + 1);
+    let c = byte(strip, at + 2);
+    let d = byte(strip, at + 3);
+    a + b * 0x100 + c * 0x1_0000 + d * 0x100_0000
 }
 
 // Word k of entry i of the table.
@@ -304,11 +305,9 @@ fn examine(strip: &[u8], full_w: usize, full_h: usize, i: usize, at: usize) -> L
         return LocatedTile::Nothing;
     };
     let length = stream_length(stream);
-    if !holds_payload(
-        strip.len() - at - TileStream::HEADER,
-        length - TileStream::HEADER,
-        1,
-    ) {
+    let room = strip.len() - at - TileStream::HEADER;
+    let payload = length - TileStream::HEADER;
+    if !holds_payload(room, payload, 1) {
         return LocatedTile::Nothing;
     }
     if !fits_frame(strip, full_w, full_h, i, h) {
@@ -354,11 +353,9 @@ fn find_alone(strip: &[u8], full_w: usize, full_h: usize) -> LocatedTile
         return LocatedTile::Nothing;
     };
     let length = stream_length(stream);
-    if !holds_payload(
-        strip.len() - TileStream::OFFSET - TileStream::HEADER,
-        length - TileStream::HEADER,
-        0,
-    ) {
+    let room = strip.len() - TileStream::OFFSET - TileStream::HEADER;
+    let payload = length - TileStream::HEADER;
+    if !holds_payload(room, payload, 0) {
         return LocatedTile::Nothing;
     }
     if h.width != full_w {
