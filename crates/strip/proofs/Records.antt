@@ -17,7 +17,7 @@ use Rattle.strip.specs.declared.TileStream.{TileStream}
 use Rattle.strip.specs.declared.LocatedTile.{LocatedTile}
 use Rattle.strip.specs.declared.LocatedTile.the-variants as answer
 use Rattle.strip.specs.declared.Located.{Located}
-use Rattle.strip.specs.Answers.{zeroStream, streamOf, answerOf, answerNumber, records, locatedOf, tableTiles}
+use Rattle.strip.specs.Answers.{zeroStream, streamOf, answerOf, answerNumber, records, located, locatedOf, tableTiles}
 
 -- one more tile at the end
 abbrev pub snoc : Option (List Tile) → Option Tile → Option (List Tile)
@@ -104,12 +104,9 @@ held-on (some ts) (some u) tiles i t (e, long, same) h found =
 held-on (some ts) none tiles i t k h found = absurd (omega (arith, ap answerNumber found))
 held-on none o tiles i t (e, long, same) h found = absurd (omega (arith, ap held e))
 
-abbrev pub locatedBy : ℕ → List TileStream → Located
-locatedBy n tiles = record { refusal = 0; count = n; tiles = tiles }
-
-whole : (r : Option (List Tile)) (tiles : List TileStream) (n : ℕ) → Held r tiles n → 1 ≤ n → locatedBy n tiles ≡ locatedOf (got r)
+whole : (r : Option (List Tile)) (tiles : List TileStream) (n : ℕ) → Held r tiles n → 1 ≤ n → located n tiles ≡ locatedOf (got r)
 whole (some []) tiles n (e, long, same) low = absurd (omega (arith, long))
-whole (some (t ∷ ts)) tiles n (e, long, same) low = rw (same, ← long) refl
+whole (some (t ∷ ts)) tiles n (e, long, same) low = rw (ne-eqb n 0 (λ z. omega (arith, z, low)), same, ← long) refl
 whole none tiles n (e, long, same) low = absurd (omega (arith, ap held e))
 
 failed : (o : Option Tile) → answerOf o ≡ answer.Nothing → o ≡ none
@@ -134,7 +131,7 @@ module _ (strip : List ℕ) (w h : ℕ) where
 
   -- the whole table
   pub gathered-all : (tiles : List TileStream) (n : ℕ) → Gathered tiles n → n ≡ little32 strip 0 → 1 ≤ n → n ≤ 16
-      → locatedBy n tiles ≡ locatedOf (tableTiles strip w h)
+      → located n tiles ≡ locatedOf (tableTiles strip w h)
   unfolding tableTiles
   gathered-all tiles n k same low high =
       rw (← same, le-leb 1 n low, le-leb n 16 high) (whole (entryTiles strip w h 0 n) tiles n k low)
@@ -169,7 +166,7 @@ leaves true (some t) none rest e = refl
 leaves true none r rest e = refl
 leaves false o r rest e = refl
 
-pub one-tile : (o : Option Tile) (t : TileStream) → answerOf o ≡ answer.Tile t → locatedBy 1 (set (records 16 []) 0 t) ≡ locatedOf (listed o)
+pub one-tile : (o : Option Tile) (t : TileStream) → answerOf o ≡ answer.Tile t → located 1 (set (records 16 []) 0 t) ≡ locatedOf (listed o)
 unfolding records
 one-tile (some u) t e = let tile : streamOf u ≡ t = ap tileIn e in rw (← tile) refl
 one-tile none t e = absurd (omega (arith, ap answerNumber e))

@@ -74,6 +74,10 @@ records zero ts = []
 records (suc n) [] = zeroStream ∷ records n []
 records (suc n) (t ∷ ts) = streamOf t ∷ records n ts
 
+-- so many records that count; none is refusal 1
+abbrev pub located : ℕ → List TileStream → Located
+located n tiles = record { refusal = on (eqb n 0) 1; count = n; tiles = tiles }
+
 -- the answer for the tiles of a strip: none is refusal 1 with every other field 0
 abbrev pub locatedOf : List Tile → Located
 locatedOf [] = record { refusal = 1; count = 0; tiles = records 16 [] }

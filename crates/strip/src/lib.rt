@@ -7,7 +7,7 @@ ghost use lib.Dec.{leb, eqb};
 ghost use lib.ListN.{length, getD, drop};
 ghost use Rattle.format.specs.Bits.{little32};
 ghost use Rattle.format.specs.Strip.{magic, sides, marks, width, codedHeight, halfHeight, groupSize, payload, unless0, word, entryStart, candidate, entryTile, alone, listed, tilesOf};
-ghost use Rattle.strip.specs.Answers.{headerOf, Sound, stream, zeroStream, answerOf, answerNumber, placed, locatedOf, tableTiles, streamFields, tileField};
+ghost use Rattle.strip.specs.Answers.{headerOf, Sound, stream, zeroStream, answerOf, answerNumber, placed, located, locatedOf, tableTiles, streamFields, tileField};
 use words::field;
 
 // The most tiles that a strip's table lists, and the steps and the reach of the search for an entry's header.
@@ -368,16 +368,30 @@ fn find_alone(strip: &[u8], full_w: usize, full_h: usize) -> LocatedTile
 }
 
 impl Located {
+    // So many tiles; none is refusal 1.
+    fn new(count: usize, tiles: [TileStream; 16]) -> Self
+        ensures { λ r. ⌜ r ≡ located count tiles ⌝ }
+    {
+        if count == 0 {
+            return Self {
+                refusal: 1,
+                count,
+                tiles,
+            };
+        }
+        Self {
+            refusal: 0,
+            count,
+            tiles,
+        }
+    }
+
     // No tile located: refusal 1 with every other field 0.
     pub fn refused() -> Self
         ensures { λ r. ⌜ r ≡ locatedOf [] ⌝ }
     {
         let none = TileStream::none();
-        Self {
-            refusal: 1,
-            count: 0,
-            tiles: [none; 16],
-        }
+        Self::new(0, [none; 16])
     }
 }
 
@@ -394,20 +408,17 @@ fn find_table(strip: &[u8], full_w: usize, full_h: usize) -> Located
         return Located::refused();
     }
     let none = TileStream::none();
-    let mut tiles = [none; 16];
+    let empty = [none; 16];
+    let mut tiles = empty;
     let mut i = 0;
     while i < count {
         let LocatedTile::Tile(tile) = find_entry(strip, full_w, full_h, i) else {
-            return Located::refused();
+            return Located::new(0, empty);
         };
         tiles[i] = tile;
         i += 1;
     }
-    Located {
-        refusal: 0,
-        count,
-        tiles,
-    }
+    Located::new(count, tiles)
 }
 
 // Locate the tile streams of a strip that covers a frame of full_w by full_h.
@@ -433,11 +444,7 @@ pub fn find_streams(strip: &[u8], full_w: usize, full_h: usize) -> Located
     let none = TileStream::none();
     let mut tiles = [none; 16];
     tiles[0] = tile;
-    Located {
-        refusal: 0,
-        count: 1,
-        tiles,
-    }
+    Located::new(1, tiles)
 }
 
 // How many tiles a strip has.

@@ -47,11 +47,12 @@ returns-5 c =
 returns-6 : tie.Need-returns-6
 unfolding records
 returns-6 c =
-    let a = c .before .before .before .before .before .before .before .before .before .before .before .before .args in
+    let a = c .before .before .before .before .before .before .before .before .before .before .before .before .before .args in
     let s = a .strip .now in
-    rw (c .none .ensures)
-    (one-tile (alone s (a .full-w) (a .full-h)) (c .before .before .tile .given .0 .0) (sym (c .before .before .before .before .find-alone .ensures .0) ∙ c .before .before .tile .given .1)
-    ∙ ap locatedOf (sym (by-alone s (a .full-w) (a .full-h) (c .before .before .before .before .before .before .before .before .before .before .if1 .left) (c .before .before .before .before .before .before .before .before .before .if2 .left) (c .before .before .before .before .before .before .before .before .if3 .left) (λ e. c .before .before .before .before .before .if4 .left (ap (λ (l : Located). l .refusal) (c .before .before .before .before .before .before .before .find-table .ensures) ∙ e)))))
+    c .new .ensures
+    ∙ rw (c .before .none .ensures)
+    (one-tile (alone s (a .full-w) (a .full-h)) (c .before .before .before .tile .given .0 .0) (sym (c .before .before .before .before .before .find-alone .ensures .0) ∙ c .before .before .before .tile .given .1)
+    ∙ ap locatedOf (sym (by-alone s (a .full-w) (a .full-h) (c .before .before .before .before .before .before .before .before .before .before .before .if1 .left) (c .before .before .before .before .before .before .before .before .before .before .if2 .left) (c .before .before .before .before .before .before .before .before .before .if3 .left) (λ e. c .before .before .before .before .before .before .if4 .left (ap (λ (l : Located). l .refusal) (c .before .before .before .before .before .before .before .before .find-table .ensures) ∙ e)))))
 
 pub find-streams-spec : {M : Type 1} → statement M
 find-streams-spec =
@@ -73,4 +74,5 @@ find-streams-spec =
     returns-5
     (λ c κs. search needs)
     (λ c. search needs)
+    (λ c κs. search needs)
     returns-6)

@@ -3,16 +3,17 @@ use mathlib.Core.Path.{_≡_, sym, ap, _∙_, subst}
 use mathlib.Core.Option.{none}
 use Prim.Native.Nat.{_-_, _≤_}
 use native.Mathlib.Omega.{arith}
+use borrow.Author.Needs.{needs}
 use Rattle.strip.specs.Answers.{records, locatedOf}
 use Rattle.strip.proofs.Records.{Gathered, gathered-none, gathered-on, gathered-all, gathered-fail, no-entries, many-entries, no-table}
 use Rattle.strip.proofs.find_table.Statement.{statement}
 use Rattle.strip.proofs.find_table.Tie as tie
 
 abbrev Inv-loop : tie.InvT-loop
-Inv-loop strip full-w full-h count tiles₀ i₀ tiles i = Gathered strip full-w full-h tiles i × (i ≤ count)
+Inv-loop strip full-w full-h count empty tiles₀ i₀ tiles i = Gathered strip full-w full-h tiles i × (i ≤ count)
 
 abbrev μ-loop : tie.MeasureT-loop
-μ-loop strip full-w full-h count tiles₀ i₀ tiles i = count - i
+μ-loop strip full-w full-h count empty tiles₀ i₀ tiles i = count - i
 
 returns : tie.Need-returns Inv-loop μ-loop
 unfolding records
@@ -36,12 +37,24 @@ find-entry-requires : tie.Need-find-entry-requires Inv-loop μ-loop
 unfolding records
 find-entry-requires c κs = (c .before .before .before .before .before .before .before .pre, omega arith)
 
+enum-known-tile : tie.Need-enum-known-tile Inv-loop μ-loop
+unfolding records
+enum-known-tile c = search needs
+
+enum-told : tie.Need-enum-told Inv-loop μ-loop
+unfolding records
+enum-told c = search needs
+
+new-requires : tie.Need-new-requires Inv-loop μ-loop
+unfolding records
+new-requires c κs = search needs
+
 returns-3 : tie.Need-returns-3 Inv-loop μ-loop
 unfolding records
 returns-3 c =
     let a = c .before .before .before .before .before .before .before .before .before .before .before .args in
-    c .refused3 .ensures
-    ∙ ap locatedOf (sym (gathered-fail (a .strip .now) (a .full-w) (a .full-h) (c .before .before .before .before .before .loop .i) (c .before .before .before .before .before .before .before .before .before .le32 .result) (sym (c .before .before .before .find-entry .ensures) ∙ c .before .enum-told .given .1) (omega arith) (c .before .before .before .before .before .before .before .before .before .le32 .ensures .0)))
+    c .new .ensures
+    ∙ rw (c .before .before .before .before .before .before .none .ensures) (ap locatedOf (sym (gathered-fail (a .strip .now) (a .full-w) (a .full-h) (c .before .before .before .before .before .loop .i) (c .before .before .before .before .before .before .before .before .before .le32 .result) (sym (c .before .before .before .find-entry .ensures) ∙ c .before .enum-told .given .1) (omega arith) (c .before .before .before .before .before .before .before .before .before .le32 .ensures .0))))
 
 loop-again : tie.Need-loop-again Inv-loop μ-loop
 unfolding records
@@ -49,12 +62,17 @@ loop-again c =
     let a = c .before .before .before .before .before .before .before .before .before .before .before .args in
     (gathered-on (a .strip .now) (a .full-w) (a .full-h) (c .before .before .before .before .before .loop .tiles) (c .before .before .before .before .before .loop .i) (c .before .tile .given .0 .0) (c .before .before .before .before .before .loop .inv .0) (omega arith) (sym (c .before .before .before .find-entry .ensures) ∙ c .before .tile .given .1), omega arith)
 
+new-requires-2 : tie.Need-new-requires-2 Inv-loop μ-loop
+unfolding records
+new-requires-2 c κs = search needs
+
 returns-4 : tie.Need-returns-4 Inv-loop μ-loop
 unfolding records
 returns-4 c =
-    let a = c .before .before .before .before .before .before .before .args in
-    let same : c .before .loop .i ≡ c .before .before .before .before .before .le32 .result = omega arith in
-    gathered-all (a .strip .now) (a .full-w) (a .full-h) (c .before .loop .tiles) (c .before .before .before .before .before .le32 .result) (subst (Gathered (a .strip .now) (a .full-w) (a .full-h) (c .before .loop .tiles)) same (c .before .loop .inv .0)) (c .before .before .before .before .before .le32 .ensures .0) (omega arith) (omega arith)
+    let a = c .before .before .before .before .before .before .before .before .args in
+    let same : c .before .before .loop .i ≡ c .before .before .before .before .before .before .le32 .result = omega arith in
+    c .new2 .ensures
+    ∙ gathered-all (a .strip .now) (a .full-w) (a .full-h) (c .before .before .loop .tiles) (c .before .before .before .before .before .before .le32 .result) (subst (Gathered (a .strip .now) (a .full-w) (a .full-h) (c .before .before .loop .tiles)) same (c .before .before .loop .inv .0)) (c .before .before .before .before .before .before .le32 .ensures .0) (omega arith) (omega arith)
 
 pub find-table-spec : {M : Type 1} → statement M
 find-table-spec =
@@ -70,13 +88,14 @@ find-table-spec =
     (λ c κs. omega arith)
     loop-holds
     find-entry-requires
-    (λ c. omega arith)
-    (λ c. omega arith)
-    (λ c κs. omega arith)
+    enum-known-tile
+    enum-told
+    new-requires
     returns-3
     (λ c. omega arith)
     (λ c. omega arith)
     (λ c. omega arith)
     (λ c. omega arith)
     loop-again
+    new-requires-2
     returns-4)

@@ -1,5 +1,5 @@
 -- `strip::Located::refused` meets its contract. Assumes nothing.
-use mathlib.Core.Path.{refl}
+use mathlib.Core.Path.{refl, _∙_}
 use mathlib.Core.Option.{none}
 use borrow.Author.Needs.{needs}
 use Rattle.strip.specs.Answers.{records}
@@ -8,11 +8,12 @@ use Rattle.strip.proofs.Located.refused.Tie as tie
 
 returns : tie.Need-returns
 unfolding records
-returns c = rw (c .none .ensures) refl
+returns c = c .new .ensures ∙ rw (c .before .none .ensures) refl
 
 pub refused-spec : {M : Type 1} → statement M
 refused-spec =
     tie.close
     (tie.spec
+    (λ c κs. search needs)
     (λ c κs. search needs)
     returns)
