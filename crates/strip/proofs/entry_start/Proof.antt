@@ -12,7 +12,9 @@ returns c = (simp (← (c .before .entry-word .ensures .0), eq-eqb _ _ (c .if1 .
 
 returns-2 : tie.Need-returns-2
 unfolding entryStart
-returns-2 c = (simp (← (c .before .entry-word .ensures .0), ne-eqb _ _ (c .if1 .left)), c .before .entry-word .ensures .1)
+returns-2 c =
+    let entry-word = c .before .entry-word in
+    (simp (← (entry-word .ensures .0), ne-eqb _ _ (c .if1 .left)), entry-word .ensures .1)
 
 pub entry-start-spec : {M : Type 1} → statement M
 entry-start-spec =

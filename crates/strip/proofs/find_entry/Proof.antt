@@ -37,7 +37,8 @@ loop-holds c = rw (c .least .ensures .0, c .before .entry-start .ensures .0) ref
 examine-requires : tie.Need-examine-requires Inv-loop μ-loop
 unfolding entryTile candidates
 examine-requires c κs =
-    (c .before .before .before .before .before .pre .0, c .before .before .before .before .before .pre .1, omega (arith, c .before .before .least .ensures .1))
+    let pre = c .before .before .before .before .before .pre in
+    (pre .0, pre .1, omega (arith, c .before .before .least .ensures .1))
 
 enum-told : tie.Need-enum-told Inv-loop μ-loop
 unfolding entryTile candidates
@@ -50,16 +51,20 @@ enum-told-2 c = search needs
 returns : tie.Need-returns Inv-loop μ-loop
 unfolding entryTile candidates
 returns c =
+    let loop = c .before .before .before .before .loop in
+    let least = c .before .before .before .before .before .least in
     let a = c .before .before .before .before .before .before .before .before .args in
     let f = candidate (a .strip .now) (a .full-w) (a .full-h) (a .i) in
-    let at = c .before .before .before .before .loop .at in
-    let end = c .before .before .before .before .before .least .result in
+    let at = loop .at in
+    let end = least .result in
     let found = c .enum-told2 .given .1 in
-    rw (← (c .before .before .before .before .loop .inv), search-on f at end (omega arith)) (found ∙ sym (hit (f at) (firstTaken f (at + 16) ((end + 16 - (at + 16)) / 16)) (sym (c .before .before .examine .ensures) ∙ found)))
+    rw (← (loop .inv), search-on f at end (omega arith)) (found ∙ sym (hit (f at) (firstTaken f (at + 16) ((end + 16 - (at + 16)) / 16)) (sym (c .before .before .examine .ensures) ∙ found)))
 
 add-at : tie.Need-add-at Inv-loop μ-loop
 unfolding entryTile candidates
-add-at c = omega (arith, c .before .before .before .before .before .least .ensures .1)
+add-at c =
+    let least = c .before .before .before .before .before .least in
+    omega (arith, least .ensures .1)
 
 loop-less : tie.Need-loop-less Inv-loop μ-loop
 unfolding entryTile candidates
@@ -68,19 +73,22 @@ loop-less c = omega arith
 loop-again : tie.Need-loop-again Inv-loop μ-loop
 unfolding entryTile candidates
 loop-again c =
+    let loop = c .before .before .before .before .loop in
+    let least = c .before .before .before .before .before .least in
     let a = c .before .before .before .before .before .before .before .before .args in
     let f = candidate (a .strip .now) (a .full-w) (a .full-h) (a .i) in
-    let at = c .before .before .before .before .loop .at in
-    let end = c .before .before .before .before .before .least .result in
+    let at = loop .at in
+    let end = least .result in
     sym (miss (f at) (firstTaken f (at + 16) ((end + 16 - (at + 16)) / 16)) (sym (c .before .before .examine .ensures) ∙ c .enum-told .given .1))
-    ∙ sym (search-on f at end (omega arith)) ∙ c .before .before .before .before .loop .inv
+    ∙ sym (search-on f at end (omega arith)) ∙ loop .inv
 
 returns-2 : tie.Need-returns-2 Inv-loop μ-loop
 unfolding entryTile candidates
 returns-2 c =
+    let loop = c .before .loop in
     let a = c .before .before .before .before .before .args in
     let f = candidate (a .strip .now) (a .full-w) (a .full-h) (a .i) in
-    rw (← (c .before .loop .inv), search-none f (c .before .loop .at) (c .before .before .least .result) (omega arith)) refl
+    rw (← (loop .inv), search-none f (loop .at) (c .before .before .least .result) (omega arith)) refl
 
 pub find-entry-spec : {M : Type 1} → statement M
 find-entry-spec =

@@ -25,34 +25,52 @@ returns-2 c =
 returns-3 : tie.Need-returns-3
 unfolding records
 returns-3 c =
+    let if1 = c .before .before .before .if1 in
     let a = c .before .before .before .before .before .args in
     c .refused3 .ensures
-    ∙ ap locatedOf (sym (no-frame (a .strip .now) (a .full-w) (a .full-h) (simp (ne-eqb _ _ (c .before .before .before .if1 .left), ne-eqb _ _ (c .before .before .if2 .left), lt-ltb _ _ (c .before .if3 .taken)))))
+    ∙ ap locatedOf (sym (no-frame (a .strip .now) (a .full-w) (a .full-h) (simp (ne-eqb _ _ (if1 .left), ne-eqb _ _ (c .before .before .if2 .left), lt-ltb _ _ (c .before .if3 .taken)))))
 
 returns-4 : tie.Need-returns-4
 unfolding records
 returns-4 c =
+    let find-table = c .before .before .find-table in
+    let if1 = c .before .before .before .before .before .if1 in
+    let if2 = c .before .before .before .before .if2 in
+    let if3 = c .before .before .before .if3 in
     let a = c .before .before .before .before .before .before .before .args in
-    c .before .before .find-table .ensures
-    ∙ ap locatedOf (sym (by-table (a .strip .now) (a .full-w) (a .full-h) (c .before .before .before .before .before .if1 .left) (c .before .before .before .before .if2 .left) (c .before .before .before .if3 .left) (ap (λ (l : Located). l .refusal) (sym (c .before .before .find-table .ensures)) ∙ c .if4 .taken)))
+    find-table .ensures
+    ∙ ap locatedOf (sym (by-table (a .strip .now) (a .full-w) (a .full-h) (if1 .left) (if2 .left) (if3 .left) (ap (λ (l : Located). l .refusal) (sym (find-table .ensures)) ∙ c .if4 .taken)))
 
 returns-5 : tie.Need-returns-5
 unfolding records
 returns-5 c =
+    let if1 = c .before .before .before .before .before .before .before .before .before .if1 in
+    let if2 = c .before .before .before .before .before .before .before .before .if2 in
+    let if3 = c .before .before .before .before .before .before .before .if3 in
+    let if4 = c .before .before .before .before .if4 in
+    let find-table = c .before .before .before .before .before .before .find-table in
+    let find-alone = c .before .before .before .find-alone in
     let a = c .before .before .before .before .before .before .before .before .before .before .before .args in
     let s = a .strip .now in
     c .refused4 .ensures
-    ∙ ap locatedOf (sym (by-alone s (a .full-w) (a .full-h) (c .before .before .before .before .before .before .before .before .before .if1 .left) (c .before .before .before .before .before .before .before .before .if2 .left) (c .before .before .before .before .before .before .before .if3 .left) (λ e. c .before .before .before .before .if4 .left (ap (λ (l : Located). l .refusal) (c .before .before .before .before .before .before .find-table .ensures) ∙ e)) ∙ no-tile (alone s (a .full-w) (a .full-h)) (sym (c .before .before .before .find-alone .ensures .0) ∙ c .before .enum-told .given .1)))
+    ∙ ap locatedOf (sym (by-alone s (a .full-w) (a .full-h) (if1 .left) (if2 .left) (if3 .left) (λ e. if4 .left (ap (λ (l : Located). l .refusal) (find-table .ensures) ∙ e)) ∙ no-tile (alone s (a .full-w) (a .full-h)) (sym (find-alone .ensures .0) ∙ c .before .enum-told .given .1)))
 
 returns-6 : tie.Need-returns-6
 unfolding records
 returns-6 c =
+    let tile = c .before .before .before .tile in
+    let find-alone = c .before .before .before .before .before .find-alone in
+    let if1 = c .before .before .before .before .before .before .before .before .before .before .before .if1 in
+    let if2 = c .before .before .before .before .before .before .before .before .before .before .if2 in
+    let if3 = c .before .before .before .before .before .before .before .before .before .if3 in
+    let if4 = c .before .before .before .before .before .before .if4 in
+    let find-table = c .before .before .before .before .before .before .before .before .find-table in
     let a = c .before .before .before .before .before .before .before .before .before .before .before .before .before .args in
     let s = a .strip .now in
     c .new .ensures
     ∙ rw (c .before .none .ensures)
-    (one-tile (alone s (a .full-w) (a .full-h)) (c .before .before .before .tile .given .0 .0) (sym (c .before .before .before .before .before .find-alone .ensures .0) ∙ c .before .before .before .tile .given .1)
-    ∙ ap locatedOf (sym (by-alone s (a .full-w) (a .full-h) (c .before .before .before .before .before .before .before .before .before .before .before .if1 .left) (c .before .before .before .before .before .before .before .before .before .before .if2 .left) (c .before .before .before .before .before .before .before .before .before .if3 .left) (λ e. c .before .before .before .before .before .before .if4 .left (ap (λ (l : Located). l .refusal) (c .before .before .before .before .before .before .before .before .find-table .ensures) ∙ e)))))
+    (one-tile (alone s (a .full-w) (a .full-h)) (tile .given .0 .0) (sym (find-alone .ensures .0) ∙ tile .given .1)
+    ∙ ap locatedOf (sym (by-alone s (a .full-w) (a .full-h) (if1 .left) (if2 .left) (if3 .left) (λ e. if4 .left (ap (λ (l : Located). l .refusal) (find-table .ensures) ∙ e)))))
 
 pub find-streams-spec : {M : Type 1} → statement M
 find-streams-spec =

@@ -18,14 +18,16 @@ abbrev μ-loop : tie.MeasureT-loop
 returns : tie.Need-returns Inv-loop μ-loop
 unfolding records
 returns c =
+    let le32 = c .before .before .le32 in
     let a = c .before .before .before .before .args in
-    c .refused .ensures ∙ ap locatedOf (sym (no-table (a .strip .now) (a .full-w) (a .full-h) (c .before .before .le32 .result) (c .before .before .le32 .ensures .0) (no-entries _ (c .before .if1 .taken))))
+    c .refused .ensures ∙ ap locatedOf (sym (no-table (a .strip .now) (a .full-w) (a .full-h) (le32 .result) (le32 .ensures .0) (no-entries _ (c .before .if1 .taken))))
 
 returns-2 : tie.Need-returns-2 Inv-loop μ-loop
 unfolding records
 returns-2 c =
+    let le32 = c .before .before .before .le32 in
     let a = c .before .before .before .before .before .args in
-    c .refused2 .ensures ∙ ap locatedOf (sym (no-table (a .strip .now) (a .full-w) (a .full-h) (c .before .before .before .le32 .result) (c .before .before .before .le32 .ensures .0) (many-entries _ (c .before .if2 .taken))))
+    c .refused2 .ensures ∙ ap locatedOf (sym (no-table (a .strip .now) (a .full-w) (a .full-h) (le32 .result) (le32 .ensures .0) (many-entries _ (c .before .if2 .taken))))
 
 loop-holds : tie.Need-loop-holds Inv-loop μ-loop
 unfolding records
@@ -35,7 +37,9 @@ loop-holds c =
 
 find-entry-requires : tie.Need-find-entry-requires Inv-loop μ-loop
 unfolding records
-find-entry-requires c κs = (c .before .before .before .before .before .before .before .pre, omega arith)
+find-entry-requires c κs =
+    let pre = c .before .before .before .before .before .before .before .pre in
+    (pre, omega arith)
 
 enum-known-tile : tie.Need-enum-known-tile Inv-loop μ-loop
 unfolding records
@@ -52,15 +56,22 @@ new-requires c κs = search needs
 returns-3 : tie.Need-returns-3 Inv-loop μ-loop
 unfolding records
 returns-3 c =
+    let none′ = c .before .before .before .before .before .before .none in
+    let loop = c .before .before .before .before .before .loop in
+    let le32 = c .before .before .before .before .before .before .before .before .before .le32 in
+    let find-entry = c .before .before .before .find-entry in
     let a = c .before .before .before .before .before .before .before .before .before .before .before .args in
     c .new .ensures
-    ∙ rw (c .before .before .before .before .before .before .none .ensures) (ap locatedOf (sym (gathered-fail (a .strip .now) (a .full-w) (a .full-h) (c .before .before .before .before .before .loop .i) (c .before .before .before .before .before .before .before .before .before .le32 .result) (sym (c .before .before .before .find-entry .ensures) ∙ c .before .enum-told .given .1) (omega arith) (c .before .before .before .before .before .before .before .before .before .le32 .ensures .0))))
+    ∙ rw (none′ .ensures) (ap locatedOf (sym (gathered-fail (a .strip .now) (a .full-w) (a .full-h) (loop .i) (le32 .result) (sym (find-entry .ensures) ∙ c .before .enum-told .given .1) (omega arith) (le32 .ensures .0))))
 
 loop-again : tie.Need-loop-again Inv-loop μ-loop
 unfolding records
 loop-again c =
+    let loop = c .before .before .before .before .before .loop in
+    let tile = c .before .tile in
+    let find-entry = c .before .before .before .find-entry in
     let a = c .before .before .before .before .before .before .before .before .before .before .before .args in
-    (gathered-on (a .strip .now) (a .full-w) (a .full-h) (c .before .before .before .before .before .loop .tiles) (c .before .before .before .before .before .loop .i) (c .before .tile .given .0 .0) (c .before .before .before .before .before .loop .inv .0) (omega arith) (sym (c .before .before .before .find-entry .ensures) ∙ c .before .tile .given .1), omega arith)
+    (gathered-on (a .strip .now) (a .full-w) (a .full-h) (loop .tiles) (loop .i) (tile .given .0 .0) (loop .inv .0) (omega arith) (sym (find-entry .ensures) ∙ tile .given .1), omega arith)
 
 new-requires-2 : tie.Need-new-requires-2 Inv-loop μ-loop
 unfolding records
@@ -69,10 +80,12 @@ new-requires-2 c κs = search needs
 returns-4 : tie.Need-returns-4 Inv-loop μ-loop
 unfolding records
 returns-4 c =
+    let loop = c .before .before .loop in
+    let le32 = c .before .before .before .before .before .before .le32 in
     let a = c .before .before .before .before .before .before .before .before .args in
-    let same : c .before .before .loop .i ≡ c .before .before .before .before .before .before .le32 .result = omega arith in
+    let same : loop .i ≡ le32 .result = omega arith in
     c .new2 .ensures
-    ∙ gathered-all (a .strip .now) (a .full-w) (a .full-h) (c .before .before .loop .tiles) (c .before .before .before .before .before .before .le32 .result) (subst (Gathered (a .strip .now) (a .full-w) (a .full-h) (c .before .before .loop .tiles)) same (c .before .before .loop .inv .0)) (c .before .before .before .before .before .before .le32 .ensures .0) (omega arith) (omega arith)
+    ∙ gathered-all (a .strip .now) (a .full-w) (a .full-h) (loop .tiles) (le32 .result) (subst (Gathered (a .strip .now) (a .full-w) (a .full-h) (loop .tiles)) same (loop .inv .0)) (le32 .ensures .0) (omega arith) (omega arith)
 
 pub find-table-spec : {M : Type 1} → statement M
 find-table-spec =

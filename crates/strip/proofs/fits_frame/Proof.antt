@@ -8,27 +8,52 @@ use Rattle.strip.proofs.fits_frame.Tie as tie
 returns : tie.Need-returns
 unfolding placed
 returns c =
-    simp (← (c .before .before .entry-word3 .ensures .0), ← (c .before .matches-side .ensures), not-true (c .before .matches-side .result) (c .if1 .taken))
+    let matches-side = c .before .matches-side in
+    simp (← (c .before .before .entry-word3 .ensures .0), ← (matches-side .ensures), not-true (matches-side .result) (c .if1 .taken))
 
 returns-2 : tie.Need-returns-2
 unfolding placed
 returns-2 c =
-    simp (← (c .before .before .before .before .before .entry-word3 .ensures .0), ← (c .before .before .before .before .matches-side .ensures), not-false (c .before .before .before .before .matches-side .result) (c .before .before .before .if1 .left), ← (c .before .before .entry-word4 .ensures .0), ← (c .before .matches-side2 .ensures), not-true (c .before .matches-side2 .result) (c .if2 .taken))
+    let entry-word3 = c .before .before .before .before .before .entry-word3 in
+    let matches-side = c .before .before .before .before .matches-side in
+    let if1 = c .before .before .before .if1 in
+    let matches-side2 = c .before .matches-side2 in
+    simp (← (entry-word3 .ensures .0), ← (matches-side .ensures), not-false (matches-side .result) (if1 .left), ← (c .before .before .entry-word4 .ensures .0), ← (matches-side2 .ensures), not-true (matches-side2 .result) (c .if2 .taken))
 
 returns-3 : tie.Need-returns-3
 unfolding placed
 returns-3 c =
-    simp (← (c .before .before .before .before .before .before .entry-word3 .ensures .0), ← (c .before .before .before .before .before .matches-side .ensures), not-false (c .before .before .before .before .before .matches-side .result) (c .before .before .before .before .if1 .left), ← (c .before .before .before .entry-word4 .ensures .0), ← (c .before .before .matches-side2 .ensures), not-false (c .before .before .matches-side2 .result) (c .before .if2 .left), ← (c .before .before .before .before .before .before .before .before .entry-word .ensures .0), lt-leb _ _ (c .if3 .taken))
+    let entry-word3 = c .before .before .before .before .before .before .entry-word3 in
+    let matches-side = c .before .before .before .before .before .matches-side in
+    let if1 = c .before .before .before .before .if1 in
+    let entry-word4 = c .before .before .before .entry-word4 in
+    let matches-side2 = c .before .before .matches-side2 in
+    let entry-word = c .before .before .before .before .before .before .before .before .entry-word in
+    simp (← (entry-word3 .ensures .0), ← (matches-side .ensures), not-false (matches-side .result) (if1 .left), ← (entry-word4 .ensures .0), ← (matches-side2 .ensures), not-false (matches-side2 .result) (c .before .if2 .left), ← (entry-word .ensures .0), lt-leb _ _ (c .if3 .taken))
 
 returns-4 : tie.Need-returns-4
 unfolding placed
 returns-4 c =
-    simp (← (c .before .before .before .before .before .before .before .entry-word3 .ensures .0), ← (c .before .before .before .before .before .before .matches-side .ensures), not-false (c .before .before .before .before .before .before .matches-side .result) (c .before .before .before .before .before .if1 .left), ← (c .before .before .before .before .entry-word4 .ensures .0), ← (c .before .before .before .matches-side2 .ensures), not-false (c .before .before .before .matches-side2 .result) (c .before .before .if2 .left), ← (c .before .before .before .before .before .before .before .before .before .entry-word .ensures .0), le-leb _ _ (c .before .if3 .left), ← (c .before .before .before .before .before .before .before .before .entry-word2 .ensures .0), lt-leb _ _ (c .if4 .taken))
+    let entry-word3 = c .before .before .before .before .before .before .before .entry-word3 in
+    let matches-side = c .before .before .before .before .before .before .matches-side in
+    let if1 = c .before .before .before .before .before .if1 in
+    let entry-word4 = c .before .before .before .before .entry-word4 in
+    let matches-side2 = c .before .before .before .matches-side2 in
+    let entry-word = c .before .before .before .before .before .before .before .before .before .entry-word in
+    let entry-word2 = c .before .before .before .before .before .before .before .before .entry-word2 in
+    simp (← (entry-word3 .ensures .0), ← (matches-side .ensures), not-false (matches-side .result) (if1 .left), ← (entry-word4 .ensures .0), ← (matches-side2 .ensures), not-false (matches-side2 .result) (c .before .before .if2 .left), ← (entry-word .ensures .0), le-leb _ _ (c .before .if3 .left), ← (entry-word2 .ensures .0), lt-leb _ _ (c .if4 .taken))
 
 returns-5 : tie.Need-returns-5
 unfolding placed
 returns-5 c =
-    simp (← (c .before .before .before .before .before .before .before .entry-word3 .ensures .0), ← (c .before .before .before .before .before .before .matches-side .ensures), not-false (c .before .before .before .before .before .before .matches-side .result) (c .before .before .before .before .before .if1 .left), ← (c .before .before .before .before .entry-word4 .ensures .0), ← (c .before .before .before .matches-side2 .ensures), not-false (c .before .before .before .matches-side2 .result) (c .before .before .if2 .left), ← (c .before .before .before .before .before .before .before .before .before .entry-word .ensures .0), le-leb _ _ (c .before .if3 .left), ← (c .before .before .before .before .before .before .before .before .entry-word2 .ensures .0), le-leb _ _ (c .if4 .left))
+    let entry-word3 = c .before .before .before .before .before .before .before .entry-word3 in
+    let matches-side = c .before .before .before .before .before .before .matches-side in
+    let if1 = c .before .before .before .before .before .if1 in
+    let entry-word4 = c .before .before .before .before .entry-word4 in
+    let matches-side2 = c .before .before .before .matches-side2 in
+    let entry-word = c .before .before .before .before .before .before .before .before .before .entry-word in
+    let entry-word2 = c .before .before .before .before .before .before .before .before .entry-word2 in
+    simp (← (entry-word3 .ensures .0), ← (matches-side .ensures), not-false (matches-side .result) (if1 .left), ← (entry-word4 .ensures .0), ← (matches-side2 .ensures), not-false (matches-side2 .result) (c .before .before .if2 .left), ← (entry-word .ensures .0), le-leb _ _ (c .before .if3 .left), ← (entry-word2 .ensures .0), le-leb _ _ (c .if4 .left))
 
 pub fits-frame-spec : {M : Type 1} → statement M
 fits-frame-spec =

@@ -12,12 +12,14 @@ returns c = simp (← (c .before .before .field .ensures .0), eq-eqb _ _ (c .if1
 returns-2 : tie.Need-returns-2
 unfolding sides
 returns-2 c =
-    simp (← (c .before .before .before .field .ensures .0), ne-eqb _ _ (c .before .if1 .left), ne-eqb _ _ (c .if2 .taken))
+    let field = c .before .before .before .field in
+    simp (← (field .ensures .0), ne-eqb _ _ (c .before .if1 .left), ne-eqb _ _ (c .if2 .taken))
 
 returns-3 : tie.Need-returns-3
 unfolding sides
 returns-3 c =
-    simp (← (c .before .before .before .field .ensures .0), ← (c .before .before .field2 .ensures .0), ne-eqb _ _ (c .before .if1 .left), eq-eqb _ _ (c .if2 .left))
+    let field = c .before .before .before .field in
+    simp (← (field .ensures .0), ← (c .before .before .field2 .ensures .0), ne-eqb _ _ (c .before .if1 .left), eq-eqb _ _ (c .if2 .left))
 
 pub has-sides-spec : {M : Type 1} → statement M
 has-sides-spec =

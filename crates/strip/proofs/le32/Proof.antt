@@ -8,7 +8,10 @@ use Rattle.strip.proofs.le32.Tie as tie
 returns : tie.Need-returns
 unfolding little32
 returns c =
-    (simp (← (c .before .before .before .byte .ensures .0), ← (c .before .before .byte2 .ensures .0), ← (c .before .byte3 .ensures .0), ← (c .byte4 .ensures .0)), omega (arith, c .before .before .before .byte .ensures .1, c .before .before .byte2 .ensures .1, c .before .byte3 .ensures .1, c .byte4 .ensures .1))
+    let byte = c .before .before .before .byte in
+    let byte2 = c .before .before .byte2 in
+    let byte3 = c .before .byte3 in
+    (simp (← (byte .ensures .0), ← (byte2 .ensures .0), ← (byte3 .ensures .0), ← (c .byte4 .ensures .0)), omega (arith, byte .ensures .1, byte2 .ensures .1, byte3 .ensures .1, c .byte4 .ensures .1))
 
 pub le32-spec : {M : Type 1} → statement M
 le32-spec =

@@ -5,7 +5,9 @@ use Rattle.strip.proofs.matches_side.Statement.{statement}
 use Rattle.strip.proofs.matches_side.Tie as tie
 
 returns : tie.Need-returns
-returns c = simp (eq-eqb _ _ (c .if1 .taken), eq-eqb (c .before .args .side) (c .before .args .side) refl)
+returns c =
+    let a = c .before .args in
+    simp (eq-eqb _ _ (c .if1 .taken), eq-eqb (a .side) (a .side) refl)
 
 returns-2 : tie.Need-returns-2
 returns-2 c = simp (ne-eqb _ _ (c .if1 .left))

@@ -10,8 +10,9 @@ use Rattle.strip.proofs.stream_at.Tie as tie
 
 returns : tie.Need-returns
 returns c =
-    let long : length (drop (c .before .args .at) (c .before .args .strip .now)) ≡ length (c .before .args .strip .now) - c .before .args .at = length-drop (c .before .args .at) (c .before .args .strip .now) in
-    take-all (length (c .before .args .strip .now) - c .before .args .at) (drop (c .before .args .at) (c .before .args .strip .now)) (omega (arith, long))
+    let a = c .before .args in
+    let long : length (drop (a .at) (a .strip .now)) ≡ length (a .strip .now) - a .at = length-drop (a .at) (a .strip .now) in
+    take-all (length (a .strip .now) - a .at) (drop (a .at) (a .strip .now)) (omega (arith, long))
 
 pub stream-at-spec : {M : Type 1} → statement M
 stream-at-spec =

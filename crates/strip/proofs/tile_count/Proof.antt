@@ -9,7 +9,8 @@ use Rattle.strip.proofs.tile_count.Tie as tie
 
 returns : tie.Need-returns
 returns c =
-    ap (λ (l : Located). l .count) (c .find-streams .ensures) ∙ count-is (tilesOf (c .before .before .args .strip .now) (c .before .before .args .full-w) (c .before .before .args .full-h))
+    let a = c .before .before .args in
+    ap (λ (l : Located). l .count) (c .find-streams .ensures) ∙ count-is (tilesOf (a .strip .now) (a .full-w) (a .full-h))
 
 pub tile-count-spec : {M : Type 1} → statement M
 tile-count-spec =

@@ -19,9 +19,10 @@ returns c =
 
 returns-2 : tie.Need-returns-2
 returns-2 c =
+    let find-streams = c .before .before .find-streams in
     let a = c .before .before .before .before .before .args in
     let ts = tilesOf (a .strip .now) (a .full-w) (a .full-h) in
-    let same : c .before .before .find-streams .result .tiles ≡ records 16 ts = ap (λ (l : Located). l .tiles) (c .before .before .find-streams .ensures) ∙ tiles-is ts in
+    let same : find-streams .result .tiles ≡ records 16 ts = ap (λ (l : Located). l .tiles) (find-streams .ensures) ∙ tiles-is ts in
     c .field .ensures ∙ ap (λ (l : List TileStream). getD (streamFields (getD l (a .ordinal) zeroStream)) (a .field) 0) same
     ∙ field-at 16 ts (a .ordinal) (a .field) zeroStream (omega arith)
 
