@@ -35,7 +35,9 @@ loop-less c = omega arith
 
 loop-again : tie.Need-loop-again Inv-loop μ-loop
 loop-again c =
-    (put-step (c .before .before .before .args .out .now) (c .before .before .loop .out) (c .before .before .before .args .at) (c .before .before .loop .i) (λ k. getD (c .before .before .before .args .text .now) k 0) _ (c .before .before .loop .inv .0) (omega arith) refl, rw length-set (c .before .before .loop .inv .1), omega arith)
+    let a = c .before .before .before .args in
+    let loop = c .before .before .loop in
+    (put-step (a .out .now) (loop .out) (a .at) (loop .i) (λ k. getD (a .text .now) k 0) _ (loop .inv .0) (omega arith) refl, rw length-set (loop .inv .1), omega arith)
 
 add-result : tie.Need-add-result Inv-loop μ-loop
 add-result c = omega arith
@@ -45,8 +47,10 @@ same-length c = c .before .loop .inv .1
 
 returns : tie.Need-returns Inv-loop μ-loop
 returns c =
-    let same : c .before .loop .i ≡ length (c .before .before .args .text .now) = omega arith in
-    (refl, c .before .loop .inv .0 ∙ ap (λ (n : ℕ). putAt (c .before .before .args .out .now) (c .before .before .args .at) (tab n (λ k. getD (c .before .before .args .text .now) k 0))) same ∙ ap (putAt (c .before .before .args .out .now) (c .before .before .args .at)) (sym (tab-of 0 (c .before .before .args .text .now))))
+    let loop = c .before .loop in
+    let a = c .before .before .args in
+    let same : loop .i ≡ length (a .text .now) = omega arith in
+    (refl, loop .inv .0 ∙ ap (λ (n : ℕ). putAt (a .out .now) (a .at) (tab n (λ k. getD (a .text .now) k 0))) same ∙ ap (putAt (a .out .now) (a .at)) (sym (tab-of 0 (a .text .now))))
 
 pub put-bytes-spec : {M : Type 1} → statement M
 put-bytes-spec =

@@ -12,13 +12,19 @@ put-number-requires c κs = omega (arith, decimal-most (c .before .before .args 
 
 put-requires : tie.Need-put-requires
 put-requires c κs =
-    omega (arith, decimal-most (c .before .before .before .before .before .before .args .n), c .before .before .before .before .before .before .pre, c .before .before .before .put-number .ensures .0, c .before .before .before .put-number .kept .0)
+    let a = c .before .before .before .before .before .before .args in
+    let pre = c .before .before .before .before .before .before .pre in
+    let put-number = c .before .before .before .put-number in
+    omega (arith, decimal-most (a .n), pre, put-number .ensures .0, put-number .kept .0)
 
 returns : tie.Need-returns
 returns c =
+    let put = c .before .before .put in
+    let put-number = c .before .before .before .before .before .before .put-number in
+    let pre = c .before .before .before .before .before .before .before .before .before .pre in
     let a = c .before .before .before .before .before .before .before .before .before .args in
-    let p : Put (a .out .now) (c .before .before .put .last .0) (a .at) (c .before .before .put .result) (ended (a .n) (a .end)) =
-    put-on (a .out .now) (c .before .before .before .before .before .before .put-number .last .0) (c .before .before .put .last .0) (decimal (a .n)) (a .end ∷ []) (a .at) (c .before .before .before .before .before .before .put-number .result) (c .before .before .put .result) (c .before .before .before .before .before .before .put-number .ensures) (c .before .before .put .ensures) (omega (arith, decimal-most (a .n), c .before .before .before .before .before .before .before .before .before .pre, c .before .before .before .before .before .before .put-number .ensures .0)) in
+    let p : Put (a .out .now) (put .last .0) (a .at) (put .result) (ended (a .n) (a .end)) =
+    put-on (a .out .now) (put-number .last .0) (put .last .0) (decimal (a .n)) (a .end ∷ []) (a .at) (put-number .result) (put .result) (put-number .ensures) (put .ensures) (omega (arith, decimal-most (a .n), pre, put-number .ensures .0)) in
     (p, omega (arith, p .0, ended-most (a .n) (a .end)))
 
 pub put-field-spec : {M : Type 1} → statement M

@@ -18,7 +18,8 @@ abbrev μ-loop : tie.MeasureT-loop
 
 loop-holds : tie.Need-loop-holds Inv-loop μ-loop
 loop-holds c =
-    (rows-start (lineAt (c .before .args .t3 .tiles)) (c .before .args .out .now) (c .before .args .at), omega arith, refl, omega arith)
+    let a = c .before .args in
+    (rows-start (lineAt (a .t3 .tiles)) (a .out .now) (a .at), omega arith, refl, omega arith)
 
 mul-tile : tie.Need-mul-tile Inv-loop μ-loop
 mul-tile c = search needs
@@ -28,7 +29,9 @@ element-copy-out-tile c = search needs
 
 put-tile-requires : tie.Need-put-tile-requires Inv-loop μ-loop
 put-tile-requires c κs =
-    omega (arith, c .before .before .before .loop .inv .1, c .before .before .before .loop .inv .2, c .before .before .before .before .before .pre .0, c .before .before .before .before .before .pre .1)
+    let loop = c .before .before .before .loop in
+    let pre = c .before .before .before .before .before .pre in
+    omega (arith, loop .inv .1, loop .inv .2, pre .0, pre .1)
 
 add-i : tie.Need-add-i Inv-loop μ-loop
 add-i c = omega arith
@@ -38,17 +41,22 @@ loop-less c = omega arith
 
 loop-again : tie.Need-loop-again Inv-loop μ-loop
 loop-again c =
+    let loop = c .before .before .before .before .before .before .loop in
+    let put-tile = c .before .before .put-tile in
+    let pre = c .before .before .before .before .before .before .before .before .pre in
     let a = c .before .before .before .before .before .before .before .before .args in
-    (rows-on (lineAt (a .t3 .tiles)) (a .out .now) (c .before .before .before .before .before .before .loop .out) (c .before .before .put-tile .last .0) (a .at) (c .before .before .before .before .before .before .loop .next) (c .before .before .put-tile .result) (c .before .before .before .before .before .before .loop .i) (c .before .before .before .before .before .before .loop .inv .0) (c .before .before .put-tile .ensures .0) (omega (arith, c .before .before .before .before .before .before .loop .inv .1, c .before .before .before .before .before .before .before .before .pre .0, c .before .before .before .before .before .before .before .before .pre .1)), omega (arith, c .before .before .before .before .before .before .loop .inv .1, c .before .before .put-tile .ensures .1), c .before .before .put-tile .kept .0 ∙ c .before .before .before .before .before .before .loop .inv .2, omega arith)
+    (rows-on (lineAt (a .t3 .tiles)) (a .out .now) (loop .out) (put-tile .last .0) (a .at) (loop .next) (put-tile .result) (loop .i) (loop .inv .0) (put-tile .ensures .0) (omega (arith, loop .inv .1, pre .0, pre .1)), omega (arith, loop .inv .1, put-tile .ensures .1), put-tile .kept .0 ∙ loop .inv .2, omega arith)
 
 same-length : tie.Need-same-length Inv-loop μ-loop
 same-length c = c .before .loop .inv .2
 
 returns : tie.Need-returns Inv-loop μ-loop
 returns c =
+    let loop = c .before .loop in
+    let pre = c .before .before .before .pre in
     let a = c .before .before .before .args in
-    let same : c .before .loop .i ≡ a .t3 .count = omega arith in
-    (subst (λ (n : ℕ). Put (a .out .now) (c .before .loop .out) (a .at) (c .before .loop .next) (rows n (lineAt (a .t3 .tiles)))) same (c .before .loop .inv .0), omega (arith, c .before .loop .inv .1, c .before .before .before .pre .1))
+    let same : loop .i ≡ a .t3 .count = omega arith in
+    (subst (λ (n : ℕ). Put (a .out .now) (loop .out) (a .at) (loop .next) (rows n (lineAt (a .t3 .tiles)))) same (loop .inv .0), omega (arith, loop .inv .1, pre .1))
 
 pub put-tiles-spec : {M : Type 1} → statement M
 put-tiles-spec =

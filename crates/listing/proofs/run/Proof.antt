@@ -7,7 +7,8 @@ use Rattle.listing.proofs.run.Tie as tie
 
 slice-aggregate-write-all : tie.Need-slice-aggregate-write-all
 slice-aggregate-write-all c =
-    sym (length-take-le (c .before .respond .result) (c .before .respond .last .1 .0) (c .before .respond .ensures .0 .1))
+    let respond = c .before .respond in
+    sym (length-take-le (respond .result) (respond .last .1 .0) (respond .ensures .0 .1))
 
 pub run-spec : {M : Type 1} → statement M
 run-spec =
