@@ -33,13 +33,15 @@ line (n ∷ m ∷ rest) = ended n 32 ++ line (m ∷ rest)
 abbrev pub lineAt : List TileStream → ℕ → List ℕ
 lineAt tiles k = line (streamFields (getD tiles k zeroStream))
 
--- "tiles ", "too long" and "too short"
+-- "tiles "
 abbrev pub tilesWord : List ℕ
 tilesWord = 116 ∷ 105 ∷ 108 ∷ 101 ∷ 115 ∷ 32 ∷ []
 
+-- "too long"
 abbrev pub tooLong : List ℕ
 tooLong = 116 ∷ 111 ∷ 111 ∷ 32 ∷ 108 ∷ 111 ∷ 110 ∷ 103 ∷ 10 ∷ []
 
+-- "too short"
 abbrev pub tooShort : List ℕ
 tooShort = 116 ∷ 111 ∷ 111 ∷ 32 ∷ 115 ∷ 104 ∷ 111 ∷ 114 ∷ 116 ∷ 10 ∷ []
 

@@ -1,7 +1,7 @@
 // The listing that the program `tiles` prints: document 01, 'Points on the line'.
 ghost use mathlib.Core.Path.{_≡_};
-ghost use mathlib.Core.List.{List, [], _∷_};
-ghost use Prim.Native.Nat.{ℕ, _+_, _≤_, _<_};
+ghost use mathlib.Core.List.{[], _∷_};
+ghost use Prim.Native.Nat.{_+_, _≤_, _<_};
 ghost use lib.ListN.{length};
 ghost use Rattle.lists.specs.Lists.{putAt, rows};
 ghost use Rattle.format.specs.Strip.{tilesOf};
@@ -17,6 +17,7 @@ const MOST: usize = 65536;
 
 const SIDES: usize = 8;
 
+// A byte.
 fn put(out: &mut [u8], at: usize, b: u8) -> usize
     requires { ⌜ at < length (now out) ⌝ }
     ensures { λ r. ⌜ (r ≡ at + 1) × (now (out .exit) ≡ putAt (now (out .entry)) at (b ∷ [])) ⌝ }

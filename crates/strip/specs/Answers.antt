@@ -20,6 +20,7 @@ use Rattle.strip.specs.declared.Located.{Located}
 
 -- ---- the header
 
+-- the answer for a header that is valid or not
 abbrev pub header : Bool → Header → StreamHeader
 header true h = Valid h
 header false h = Invalid
@@ -45,6 +46,7 @@ Sound s Invalid = (validHeader s ≡ false) × (headerRefusal s ≡ 2)
 abbrev pub stream : ℕ → ℕ → ℕ → ℕ → ℕ → ℕ → TileStream
 stream offset length x y width height = record { offset = offset; length = length; x = x; y = y; width = width; height = height }
 
+-- the code's record of a tile
 abbrev pub streamOf : Tile → TileStream
 streamOf t = stream (t .offset) (t .length) (t .x) (t .y) (t .width) (t .height)
 
@@ -78,7 +80,7 @@ records (suc n) (t ∷ ts) = streamOf t ∷ records n ts
 abbrev pub located : ℕ → List TileStream → Located
 located n tiles = record { refusal = on (eqb n 0) 1; count = n; tiles = tiles }
 
--- the answer for the tiles of a strip: none is refusal 1 with every other field 0
+-- the answer for the tiles of a strip: none is refusal 1 with every other field 0; else no refusal, the count and the tiles in order
 abbrev pub locatedOf : List Tile → Located
 locatedOf [] = record { refusal = 1; count = 0; tiles = records 16 [] }
 locatedOf (t ∷ ts) = record { refusal = 0; count = length (t ∷ ts); tiles = records 16 (t ∷ ts) }
@@ -93,6 +95,7 @@ tableTiles s frameW frameH = tableOr (cond (hasTable (little32 s 0)) (entryTiles
 abbrev pub fieldsOf : Tile → List ℕ
 fieldsOf t = t .offset ∷ t .length ∷ t .x ∷ t .y ∷ t .width ∷ t .height ∷ []
 
+-- the same of the code's record
 abbrev pub streamFields : TileStream → List ℕ
 streamFields t = t .offset ∷ t .length ∷ t .x ∷ t .y ∷ t .width ∷ t .height ∷ []
 

@@ -1,18 +1,19 @@
 // The stream header and the locator of tiles in a strip: document 01, 'Strip'.
 ghost use mathlib.Core.Path.{_≡_};
-ghost use mathlib.Core.Bool.{Bool, cond, _&&_};
-ghost use Prim.Native.Nat.{ℕ, _+_, _-_, _*_, _^_, _<_, _≤_, min};
-ghost use mathlib.Core.List.{List, []};
+ghost use mathlib.Core.Bool.{_&&_};
+ghost use Prim.Native.Nat.{_+_, _^_, _<_, _≤_, min};
+ghost use mathlib.Core.List.{[]};
 ghost use lib.Dec.{leb, eqb};
 ghost use lib.ListN.{length, getD, drop};
 ghost use Rattle.format.specs.Bits.{little32};
-ghost use Rattle.format.specs.Strip.{magic, sides, marks, width, codedHeight, halfHeight, groupSize, payload, unless0, word, entryStart, candidate, entryTile, alone, listed, tilesOf};
+ghost use Rattle.format.specs.Strip.{magic, sides, marks, groupSize, payload, unless0, word, entryStart, candidate, entryTile, alone, listed, tilesOf};
 ghost use Rattle.strip.specs.Answers.{headerOf, Sound, stream, zeroStream, answerOf, answerNumber, placed, located, locatedOf, tableTiles, streamFields, tileField};
 use words::field;
 
-// The most tiles that a strip's table lists, and the steps and the reach of the search for an entry's header.
+// The most tiles that a strip's table lists.
 pub const TILES: usize = 16;
 
+// The bytes from a candidate to the next, and from an entry's start to its last.
 const STEP: usize = 16;
 
 const REACH: usize = 4096;
@@ -28,11 +29,13 @@ pub struct TileStream {
 }
 
 impl TileStream {
-    // Where a stream's directory and its first packet start, and where a strip's only tile does.
+    // Where a stream's directory starts.
     pub const DIRECTORY: usize = 48;
 
+    // Where a stream's packets start.
     pub const HEADER: usize = 128;
 
+    // Where a tile's stream starts in the strip, unless the table says where.
     pub const OFFSET: usize = 512;
 
     // A tile record.
@@ -95,6 +98,7 @@ pub struct Header {
     pub height: usize,
 }
 
+// What a stream starts with: a valid header, or refusal 2.
 pub enum StreamHeader {
     Valid(Header),
     Invalid,
@@ -110,7 +114,7 @@ pub enum LocatedTile {
 pub struct Located {
     pub refusal: u32,
     pub count: usize,
-    pub tiles: [TileStream; 16],
+    pub tiles: [TileStream; TILES],
 }
 
 // "A000" or "0000".
@@ -203,6 +207,7 @@ pub fn stream_length(stream: &[u8]) -> usize
         + group_size(stream, 4)
 }
 
+// A byte as a number.
 fn byte(strip: &[u8], at: usize) -> usize
     requires { ⌜ at < length (now strip) ⌝ }
     ensures { λ r. ⌜ (r ≡ getD (now (strip .entry)) at 0) × (r < 256) ⌝ }
@@ -318,6 +323,7 @@ fn examine(strip: &[u8], full_w: usize, full_h: usize, i: usize, at: usize) -> L
     LocatedTile::Tile(TileStream::new(at, length, x, y, h.width, h.height))
 }
 
+// The lesser of two numbers.
 fn least(a: usize, b: usize) -> usize
     ensures { λ r. ⌜ (r ≡ min a b) × (r ≤ b) ⌝ }
 {
@@ -369,7 +375,7 @@ fn find_alone(strip: &[u8], full_w: usize, full_h: usize) -> LocatedTile
 
 impl Located {
     // So many tiles; none is refusal 1.
-    fn new(count: usize, tiles: [TileStream; 16]) -> Self
+    fn new(count: usize, tiles: [TileStream; TILES]) -> Self
         ensures { λ r. ⌜ r ≡ located count tiles ⌝ }
     {
         if count == 0 {
@@ -391,7 +397,7 @@ impl Located {
         ensures { λ r. ⌜ r ≡ locatedOf [] ⌝ }
     {
         let none = TileStream::none();
-        Self::new(0, [none; 16])
+        Self::new(0, [none; TILES])
     }
 }
 
@@ -408,7 +414,7 @@ fn find_table(strip: &[u8], full_w: usize, full_h: usize) -> Located
         return Located::refused();
     }
     let none = TileStream::none();
-    let empty = [none; 16];
+    let empty = [none; TILES];
     let mut tiles = empty;
     let mut i = 0;
     while i < count {
@@ -442,7 +448,7 @@ pub fn find_streams(strip: &[u8], full_w: usize, full_h: usize) -> Located
         return Located::refused();
     };
     let none = TileStream::none();
-    let mut tiles = [none; 16];
+    let mut tiles = [none; TILES];
     tiles[0] = tile;
     Located::new(1, tiles)
 }
