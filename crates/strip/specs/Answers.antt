@@ -92,17 +92,13 @@ tableTiles s frameW frameH = tableOr (cond (hasTable (little32 s 0)) (entryTiles
 -- ---- for C
 
 -- the six fields in order
-abbrev pub fieldsOf : Tile → List ℕ
-fieldsOf t = t .offset ∷ t .length ∷ t .x ∷ t .y ∷ t .width ∷ t .height ∷ []
-
--- the same of the code's record
 abbrev pub streamFields : TileStream → List ℕ
 streamFields t = t .offset ∷ t .length ∷ t .x ∷ t .y ∷ t .width ∷ t .height ∷ []
 
 -- the fields of tile k, from 0; none where there is no such tile
 unfoldable pub fieldsAt : List Tile → ℕ → List ℕ
 fieldsAt [] k = []
-fieldsAt (t ∷ ts) zero = fieldsOf t
+fieldsAt (t ∷ ts) zero = streamFields (streamOf t)
 fieldsAt (t ∷ ts) (suc k) = fieldsAt ts k
 
 -- field f of tile k; one that isn't there gives 0
