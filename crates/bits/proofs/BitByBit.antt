@@ -1,16 +1,16 @@
 -- The reader's definitions, one bit at a time. Assumes nothing.
 use borrow.Author.Tests.{le-leb, lt-leb, lt-ltb, le-ltb}
-use mathlib.Core.Path.{_≡_, refl, sym, ap, _∙_}
+use mathlib.Core.Path.{_≡_, refl, ap, _∙_}
 use mathlib.Core.Logic.{⊎-elim}
-use mathlib.Core.Bool.{Bool, true, false, cond}
+use mathlib.Core.Bool.{false, cond}
 use mathlib.Core.List.{List}
-use lib.Dec.{eqb, leb, ltb}
-use Prim.Native.Nat.{ℕ, zero, suc, _+_, _-_, _*_, _^_, _≤_, _<_, min}
+use lib.Dec.{eqb, leb}
+use Prim.Native.Nat.{ℕ, suc, _+_, _-_, _*_, _≤_, _<_, min}
 use native.Mathlib.Nat.{pow-suc, mul-assoc, zero-mul}
 use native.Mathlib.Numerals.{add-one}
 use native.Mathlib.Omega.{arith}
 use Rattle.format.specs.Bits.{bitAt, bitsAt, zerosAt}
-use Rattle.format.specs.Reader.{Reader, Taken, readOf, findOf, skipped, spent}
+use Rattle.format.specs.Reader.{Reader, Taken, readOf, findOf}
 use Rattle.format.proofs.BitLaws.{le-or-lt, bits-none, bit-lt}
 
 -- one bit more

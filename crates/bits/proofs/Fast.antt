@@ -1,14 +1,13 @@
 -- A width update out of a word that holds enough of the bits. Assumes nothing.
-use borrow.Author.Tests.{le-leb, lt-ltb, le-ltb, lt-leb}
-use mathlib.Core.Path.{_≡_, refl, sym, ap, _∙_}
+use borrow.Author.Tests.{le-leb, lt-ltb, le-ltb}
+use mathlib.Core.Path.{_≡_, sym, ap, _∙_}
 use mathlib.Core.List.{List}
-use Prim.Native.Nat.{ℕ, suc, _+_, _-_, _*_, _/_, _%_, _^_, _≤_, _<_, min}
+use Prim.Native.Nat.{ℕ, _+_, _-_, _*_, _/_, _%_, _^_, _≤_, _<_, min}
 use native.Mathlib.Omega.{arith}
 use lib.Count.{leadingZeros}
-use lib.Dec.{lit≤, lit<}
 use Rattle.format.specs.Bits.{bitsAt, bitAt, zerosAt}
-use Rattle.format.specs.Reader.{Reader, Taken, readOf, unaryOf, findOf, updateOf, skipped, kept, grown, shrunk}
-use Rattle.format.proofs.BitLaws.{prefix-of, middle-of, lead-some, lead-one, zeros-found, zeros-all, bits-add, bits-lt}
+use Rattle.format.specs.Reader.{Reader, Taken, readOf, unaryOf, findOf, updateOf, skipped, grown, shrunk}
+use Rattle.format.proofs.BitLaws.{prefix-of, middle-of, lead-some, lead-one, zeros-found, zeros-all, bits-add}
 use Rattle.bits.proofs.Update.{update-zero, update-grown, update-shrunk}
 
 module _ (s : List ℕ) (r : Reader) where

@@ -1,10 +1,12 @@
 -- The ways through a zero run, each from what was read on it. Assumes nothing.
 use borrow.Author.Tests.{le-leb, lt-leb, eq-eqb, ne-eqb}
-use mathlib.Core.Path.{_≡_, refl, sym, ap, _∙_}
+use mathlib.Core.Path.{_≡_}
 use mathlib.Core.List.{List}
 use mathlib.Core.Logic.{⊎-elim}
-use Prim.Native.Nat.{ℕ, _+_, _-_, _^_, _≤_, _<_}
+use Prim.Native.Nat.{ℕ, suc, _-_, _^_, _≤_, _<_}
 use native.Mathlib.Omega.{arith}
+use native.Mathlib.Nat.{pow-suc}
+use lib.Count.{leading-length}
 use lib.Pow.{pow-mono}
 use Rattle.format.specs.Reader.{Reader, Taken, readOf, findOf, runOf, runFound, kept, atMost, bitLength}
 use Rattle.format.proofs.BitLaws.{le-or-lt}
@@ -12,6 +14,13 @@ use Rattle.format.proofs.BitLaws.{le-or-lt}
 -- a smaller power has a smaller exponent
 pub exponent-lt : (j k : ℕ) → 2 ^ j < 2 ^ k → j < k
 exponent-lt j k h = ⊎-elim (λ le. omega (arith, pow-mono le)) (λ lt. lt) (le-or-lt k j)
+
+-- a place below the bits that g - 1 has: its power never reaches g
+pub power-below : (g z : ℕ) → 1 < g → g < 2 ^ 64 → z < bitLength (g - 1) → 2 ^ z < g
+power-below g z more fits h =
+    let l = leading-length 64 (g - 1) (omega arith) in
+    let up : suc z ≤ l .0 = omega (arith, l .1) in
+    omega (arith, pow-mono up, l .3, pow-suc 2 z)
 
 module _ (s : List ℕ) (r : Reader) (g : ℕ) where
   pub run-one : g ≤ 1 → record { value = g; reader = r } ≡ runOf s r g
@@ -29,10 +38,6 @@ module _ (s : List ℕ) (r : Reader) (g : ℕ) where
       run-stopped n = simp (lt-leb _ _ more, ← found, lt-leb _ _ some, ne-eqb _ _ n)
 
       module _ (go : t .reader .status ≡ 0) where
-        pub run-full : g ≤ 2 ^ t .value → kept g t ≡ runOf s r g
-        unfolding runOf runFound
-        run-full h = simp (lt-leb _ _ more, ← found, lt-leb _ _ some, eq-eqb _ _ go, le-leb _ _ h)
-
         pub run-part : 2 ^ t .value < g → atMost g (t .value) (readOf s (t .reader) (t .value)) ≡ runOf s r g
         unfolding runOf runFound
         run-part h = simp (lt-leb _ _ more, ← found, lt-leb _ _ some, eq-eqb _ _ go, lt-leb _ _ h)

@@ -1,14 +1,29 @@
 -- The ways through a width update, each from what was read on it. Assumes nothing.
 use borrow.Author.Tests.{eq-eqb, ne-eqb, le-ltb}
-use mathlib.Core.Path.{_≡_, refl, sym, ap, _∙_}
+use mathlib.Core.Path.{_≡_, ap, _∙_}
 use mathlib.Core.List.{List}
-use Prim.Native.Nat.{ℕ, _+_, _-_, min, zero-le}
+use Prim.Native.Nat.{ℕ, _-_, min, zero-le}
 use native.Mathlib.Nat.{zero-add, zero-sub}
 use native.Mathlib.Omega.{arith}
 use lib.Dec.{leb·zero}
 use Rattle.format.specs.Reader.{Reader, Taken, readOf, unaryOf, findOf, updateOf, updateFirst, updateSecond, kept, grown, shrunk, skipped}
 use Rattle.format.specs.Bits.{zerosAt}
 
+-- from the second opening bit on
+module _ (s : List ℕ) (w : ℕ) (b : Taken) where
+  pub second-stopped : (b .reader .status ≡ 0 → ⊥) → kept w b ≡ updateSecond s w b
+  unfolding updateSecond
+  second-stopped n = simp (ne-eqb _ _ n)
+
+  pub second-grown : b .reader .status ≡ 0 → b .value ≡ 0 → grown w (unaryOf s (b .reader)) ≡ updateSecond s w b
+  unfolding updateSecond
+  second-grown g z = simp (eq-eqb _ _ g, eq-eqb _ _ z)
+
+  pub second-shrunk : b .reader .status ≡ 0 → (b .value ≡ 0 → ⊥) → shrunk w (findOf s (b .reader) (w - 1)) ≡ updateSecond s w b
+  unfolding updateSecond
+  second-shrunk g z = simp (eq-eqb _ _ g, ne-eqb _ _ z)
+
+-- from the first on
 module _ (s : List ℕ) (r : Reader) (w : ℕ) (a : Taken) (first : a ≡ readOf s r 1) where
   pub update-zero : a .value ≡ 0 → kept w a ≡ updateOf s r w
   unfolding updateOf updateFirst
@@ -19,18 +34,22 @@ module _ (s : List ℕ) (r : Reader) (w : ℕ) (a : Taken) (first : a ≡ readOf
     unfolding updateOf updateFirst
     update-stopped n = simp (← first, ne-eqb _ _ one, ne-eqb _ _ n)
 
+    pub update-second : a .reader .status ≡ 0 → updateSecond s w (readOf s (a .reader) 1) ≡ updateOf s r w
+    unfolding updateOf updateFirst
+    update-second go = simp (← first, ne-eqb _ _ one, eq-eqb _ _ go)
+
     module _ (go : a .reader .status ≡ 0) (b : Taken) (second : b ≡ readOf s (a .reader) 1) where
+      then : updateSecond s w b ≡ updateOf s r w
+      then = ap (updateSecond s w) second ∙ update-second go
+
       pub update-stopped-2 : (b .reader .status ≡ 0 → ⊥) → kept w b ≡ updateOf s r w
-      unfolding updateOf updateFirst updateSecond
-      update-stopped-2 n = simp (← first, ne-eqb _ _ one, eq-eqb _ _ go, ← second, ne-eqb _ _ n)
+      update-stopped-2 n = second-stopped s w b n ∙ then
 
       pub update-grown : b .reader .status ≡ 0 → b .value ≡ 0 → grown w (unaryOf s (b .reader)) ≡ updateOf s r w
-      unfolding updateOf updateFirst updateSecond
-      update-grown g z = simp (← first, ne-eqb _ _ one, eq-eqb _ _ go, ← second, eq-eqb _ _ g, eq-eqb _ _ z)
+      update-grown g z = second-grown s w b g z ∙ then
 
       pub update-shrunk : b .reader .status ≡ 0 → (b .value ≡ 0 → ⊥) → shrunk w (findOf s (b .reader) (w - 1)) ≡ updateOf s r w
-      unfolding updateOf updateFirst updateSecond
-      update-shrunk g z = simp (← first, ne-eqb _ _ one, eq-eqb _ _ go, ← second, eq-eqb _ _ g, ne-eqb _ _ z)
+      update-shrunk g z = second-shrunk s w b g z ∙ then
 
 -- no bits are looked through
 pub find-none : (s : List ℕ) (r : Reader) → findOf s r 0 ≡ record { value = 0; reader = skipped r 0 }

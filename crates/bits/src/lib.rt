@@ -1,14 +1,15 @@
 // The coefficient bit reader.
 ghost use mathlib.Core.Path.{_≡_};
-ghost use Prim.Native.Nat.{_+_, _-_, _*_, _/_, _^_, _<_, _≤_, min};
+ghost use Prim.Native.Nat.{_+_, _-_, _/_, _^_, _<_, _≤_, min};
 ghost use lib.ListN.{length};
 ghost use Rattle.format.specs.Bits.{bitsAt, zerosAt};
-ghost use Rattle.format.specs.Reader.{startOf, skipped, spent, readOf, unaryOf, findOf, updateOf, runOf, bitLength};
+ghost use Rattle.format.specs.Reader.{startOf, skipped, spent, readOf, unaryOf, findOf, updateSecond, updateOf, runOf, bitLength};
 ghost use Rattle.format.specs.Coefficients.{fourOf};
 ghost use Rattle.bits.specs.View.{asReader, asTaken, asFour, Ready, Sound, SoundFour, Filled};
 use words::top;
 use words::window;
 
+// The lesser of two numbers.
 pub fn least(a: u64, b: u64) -> u64
     ensures { λ r. ⌜ r ≡ min a b ⌝ }
     ensures { λ r. ⌜ (r ≤ a) × (r ≤ b) ⌝ }
@@ -16,6 +17,7 @@ pub fn least(a: u64, b: u64) -> u64
     if a <= b { a } else { b }
 }
 
+// The difference, 0 where it would be below 0.
 pub fn less(a: u64, b: u64) -> u64
     ensures { λ r. ⌜ r ≡ a - b ⌝ }
 {
@@ -29,6 +31,7 @@ fn bit_length(x: u64) -> u64
     64 - (u64::leading_zeros(x) as u64)
 }
 
+// 2 to the n.
 fn power(n: u64) -> u64
     requires { ⌜ n < 64 ⌝ }
     ensures { λ r. ⌜ r ≡ 2 ^ n ⌝ }
@@ -275,7 +278,17 @@ impl BitReader {
                 reader: first,
             };
         }
-        let b = first.read(packet, 1);
+        first.width_second(packet, width)
+    }
+
+    // The same from the second opening bit on.
+    fn width_second(self, packet: &[u8], width: u64) -> Taken
+        requires { ⌜ Ready (now packet) self ⌝ }
+        requires { ⌜ width < 2 ^ 32 ⌝ }
+        ensures { λ r. ⌜ asTaken r ≡ updateSecond (now (packet .entry)) width (readOf (now (packet .entry)) (asReader self) 1) ⌝ }
+        ensures { λ r. ⌜ Ready (now (packet .entry)) (r .reader) ⌝ }
+    {
+        let b = self.read(packet, 1);
         let second = b.reader;
         if second.status != 0 {
             return Taken {
@@ -366,17 +379,10 @@ impl BitReader {
                 reader: after,
             };
         }
-        let base = power(z);
-        if groups <= base {
-            return Taken {
-                value: groups,
-                reader: after,
-            };
-        }
         let extra = after.read(packet, z);
         let end = extra.reader;
         Taken {
-            value: least(base + extra.value, groups),
+            value: least(power(z) + extra.value, groups),
             reader: end,
         }
     }

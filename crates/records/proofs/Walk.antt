@@ -5,7 +5,7 @@ use mathlib.Core.List.{List, [], _++_, append-assoc, append-nil}
 use mathlib.Core.Logic.{⊎-elim}
 use mathlib.Core.Bool.{cond}
 use Prim.Native.Nat.{ℕ, zero, suc, _+_, _-_, _*_, _/_, _^_, _≤_, _<_, min}
-use native.Mathlib.Nat.{sub-zero, suc-mul, zero-mul, add-assoc, add-zero, div-eq-of-lt, mul-le-mul-right, mul-le-mul-left, le-trans}
+use native.Mathlib.Nat.{sub-zero, suc-mul, zero-mul, add-assoc, add-zero, div-eq-of-lt, mul-le-mul-right}
 use native.Mathlib.Numerals.{add-one}
 use native.Mathlib.Omega.{arith}
 use lib.IntN.{ℤ, pos}
@@ -17,7 +17,7 @@ use Rattle.format.specs.Reader.{Reader}
 use Rattle.lists.specs.Lists.{rows}
 use Rattle.format.specs.Bits.{bitsAt}
 use Rattle.format.specs.Packets.{sum, control, kind, recordBit, recordLength, selector, payloadAt}
-use Rattle.format.specs.Coefficients.{Part, Stretch, zeros, rowOf, rowsOf, codedRecord, recordOf}
+use Rattle.format.specs.Coefficients.{Part, zeros, rowOf, rowsOf, codedRecord, recordOf}
 use Rattle.format.proofs.BitLaws.{le-or-lt, bits-lt}
 use Rattle.records.specs.Record.{selectorOf, selectorsOf}
 

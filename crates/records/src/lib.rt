@@ -1,7 +1,7 @@
 // The records of a packet.
 ghost use mathlib.Core.Path.{_≡_};
 ghost use mathlib.Core.Bool.{cond};
-ghost use Prim.Native.Nat.{_+_, _*_, _^_, _<_, _≤_};
+ghost use Prim.Native.Nat.{_*_, _^_, _<_, _≤_};
 ghost use lib.Dec.{ltb};
 ghost use lib.ListN.{length};
 ghost use Rattle.format.specs.Packets.{kind, blocks, recordBit, recordLength, selector, payloadAt};
@@ -35,6 +35,7 @@ fn record_length(packet: &[u8], i: usize) -> usize
     field(packet, record_bit(packet, i), 16)
 }
 
+// The selectors of record i.
 fn selectors_at(packet: &[u8], i: usize) -> Selectors
     requires { ⌜ (8 ≤ length (now packet)) × (i < 2 ^ 32) ⌝ }
     ensures { λ r. ⌜ r ≡ selectorsOf (now (packet .entry)) i ⌝ }
@@ -63,6 +64,7 @@ fn selector_of(v: Selectors, m: usize, k: usize) -> u64
     v.c
 }
 
+// Zeros in all of a slice.
 fn clear(s: &mut [i32])
     ensures { λ r. ⌜ now (s .exit) ≡ zeros (length (now (s .entry))) ⌝ }
 {

@@ -1,12 +1,12 @@
 -- A slice that is filled from the front. Assumes nothing.
-use mathlib.Core.Path.{_≡_, refl, sym, ap, _∙_}
+use mathlib.Core.Path.{_≡_, sym, ap, _∙_}
 use mathlib.Core.Logic.{⊎-elim}
-use mathlib.Core.List.{List, [], _∷_, _++_, append-assoc}
-use Prim.Native.Nat.{ℕ, zero, suc, _+_, _-_, _≤_, _<_}
+use mathlib.Core.List.{List, _∷_, _++_, append-assoc}
+use Prim.Native.Nat.{ℕ, suc, _+_, _≤_, _<_}
 use native.Mathlib.Omega.{arith}
 use native.Mathlib.Numerals.{add-one}
 use lib.IntN.{ℤ, pos}
-use lib.ListN.{length, take, set, replicate, length-set}
+use lib.ListN.{length, set, replicate, length-set}
 use lib.Seq.{take-all, take-length, take-append-le, take-suc-set, set-out}
 use Rattle.format.proofs.BitLaws.{le-or-lt}
 use Rattle.rows.specs.Course.{filled}

@@ -1,13 +1,12 @@
 -- Laws of the numbers of a row. Assumes nothing.
-use borrow.Author.Tests.{eq-eqb, ne-eqb, ltb-true}
-use mathlib.Core.Path.{_≡_, refl, sym, ap, _∙_}
+use borrow.Author.Tests.{eq-eqb, ne-eqb}
+use mathlib.Core.Path.{_≡_, refl, sym}
 use mathlib.Core.Bool.{Bool, true, false, _||_, true≢false}
 use Prim.Native.Nat.{ℕ, zero, suc, _+_, _-_, _*_, _^_, _%_, _<_, _≤_}
 use native.Mathlib.Omega.{arith}
 use native.Mathlib.Nat.{mul-le-mul-left, mul-one}
 use lib.IntN.{ℤ, pos, negsuc, negℤ}
 use lib.Signed.{ltZ}
-use lib.Dec.{eqb}
 use lib.Pow.{shl-exact, pow-pos}
 use mir.Syntax.{w32}
 use mir.Val.{SFits}

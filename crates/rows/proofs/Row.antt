@@ -1,14 +1,15 @@
 -- The turns of a row. Assumes nothing.
 use borrow.Author.Tests.{eq-eqb, ne-eqb, le-leb, lt-leb}
-use mathlib.Core.Path.{_≡_, refl, sym, ap, _∙_}
+use mathlib.Core.Path.{_≡_, sym, ap, _∙_}
 use mathlib.Core.List.{List, [], _∷_, _++_, append-nil}
+use mathlib.Core.Logic.{⊎-elim}
 use Prim.Native.Nat.{ℕ, zero, suc, _+_, _-_, _*_, _≤_, _<_}
 use native.Mathlib.Omega.{arith}
 use lib.IntN.{ℤ, pos}
 use lib.ListN.{length, set, replicate}
 use Rattle.format.specs.Reader.{Taken, Reader}
-use Rattle.format.specs.Coefficients.{GroupAnswer, RunAnswer, Part, prepend, zerosPart, groupPart, stopPart, stopped, zerosOf, groupOf, rowStep, rowFrom}
-use Rattle.rows.specs.Course.{filled, Going}
+use Rattle.format.specs.Coefficients.{GroupAnswer, RunAnswer, Part, zerosPart, groupPart, stopPart, stopped, zerosOf, groupOf, rowStep, rowFrom}
+use Rattle.rows.specs.Course.{filled, Halted, Going}
 use Rattle.rows.proofs.Filled.{filled-past, filled-four}
 
 -- the ways through a turn
@@ -70,12 +71,10 @@ module _ (s : List ℕ) (sel : ℕ) (whole : Part) (d₀ d : List ℤ) (out g : 
         (sym (filled-past d′ (out + 4 * g) [] long) ∙ cleared [] ∙ ap (filled d out) (append-nil (replicate (4 * g) (pos 0))) ∙ n .2, n .3)
 
     module _ (some : g ≡ 0 → ⊥) (d′ : List ℤ) where
-      module _ (long : length d′ ≤ out + 4 * g) (cleared : (l : List ℤ) → filled d′ (out + 4 * g) l ≡ filled d out (replicate (4 * g) (pos 0) ++ l)) where
-        pub going-stopped : (t .reader .status ≡ 0 → ⊥) → (d′ ≡ filled d₀ 0 (whole .values)) × (stopped (t .reader) ≡ whole .reader)
-        going-stopped h = stop-at some (λ rest. step-stopped rest s sel g t some h) d′ long cleared
-
-        pub going-wide : t .reader .status ≡ 0 → 19 < t .value → (d′ ≡ filled d₀ 0 (whole .values)) × (stopped (t .reader) ≡ whole .reader)
-        going-wide e h = stop-at some (λ rest. step-wide rest s sel g t some e h) d′ long cleared
+      pub going-halted : length d′ ≤ out + 4 * g → ((l : List ℤ) → filled d′ (out + 4 * g) l ≡ filled d out (replicate (4 * g) (pos 0) ++ l)) → Halted t
+          → (d′ ≡ filled d₀ 0 (whole .values)) × (stopped (t .reader) ≡ whole .reader)
+      going-halted long cleared =
+          ⊎-elim (λ h. stop-at some (λ rest. step-stopped rest s sel g t some h) d′ long cleared) (λ h. stop-at some (λ rest. step-wide rest s sel g t some (h .0) (h .1)) d′ long cleared)
 
       -- after a zero run
       pub going-run : (z : RunAnswer) → z ≡ zerosOf s g (t .reader) → 0 < z .groups → t .reader .status ≡ 0 → t .value ≡ 0

@@ -8,7 +8,7 @@ use lib.IntN.{ℤ}
 use lib.ListN.{length, set, length-set}
 use Rattle.format.specs.Bits.{bitsAt}
 use Rattle.format.proofs.BitLaws.{le-or-lt}
-use Rattle.format.specs.Reader.{Reader, Taken, skipped}
+use Rattle.format.specs.Reader.{Reader, Taken}
 use Rattle.bits.specs.View.{asReader, Ready}
 use Rattle.bits.specs.declared.BitReader.{BitReader}
 use Rattle.rows.specs.declared.Change.{Change}

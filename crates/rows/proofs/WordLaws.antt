@@ -1,26 +1,25 @@
 -- A group of four values out of one word. Assumes nothing.
-use borrow.Author.Tests.{eq-eqb, ne-eqb, le-leb, lt-leb, lt-ltb, le-ltb}
+use borrow.Author.Tests.{eq-eqb, ne-eqb, lt-leb, lt-ltb, le-ltb}
 use mathlib.Core.Path.{_≡_, refl, sym, ap, _∙_}
 use mathlib.Core.Logic.{⊎-elim}
 use mathlib.Core.List.{List, [], _∷_}
 use mathlib.Core.Bool.{Bool, true, false, cond}
-use Prim.Native.Nat.{ℕ, zero, suc, _+_, _-_, _*_, _/_, _%_, _^_, _≤_, _<_, min}
+use Prim.Native.Nat.{ℕ, _+_, _-_, _*_, _/_, _%_, _^_, _≤_, _<_, min}
 use native.Mathlib.Nat.{zero-mul, add-zero, sub-zero, lt-of-lt-of-le}
 use native.Mathlib.Omega.{arith}
 use lib.Count.{leadingZeros}
-use lib.Dec.{eqb, leb, ltb, lit≤}
+use lib.Dec.{eqb, lit≤}
 use lib.Pow.{shr-lt, shl-lt, pow-mono, shr-shr}
 use lib.IntN.{ℤ, pos, negℤ}
-use lib.Signed.{ltZ}
 use mir.Syntax.{w32}
 use mir.Val.{SFits}
 use Rattle.wrap32.proofs.Laws.{cut-id}
 use Rattle.format.specs.Bits.{bitsAt}
-use Rattle.format.specs.Reader.{Reader, Taken, readOf, updateOf, skipped}
-use Rattle.format.proofs.BitLaws.{le-or-lt, bits-add, bits-lt, bits-top, bits-low, prefix, prefix-of, middle-of}
+use Rattle.format.specs.Reader.{Reader, updateOf, skipped}
+use Rattle.format.proofs.BitLaws.{le-or-lt, bits-lt, bits-top, bits-low, prefix, prefix-of, middle-of}
 use Rattle.bits.proofs.Reads4.{four-within}
 use Rattle.bits.proofs.Fast.{read-within, word-keeps, word-grows, word-shrinks, word-ends}
-use Rattle.format.specs.Coefficients.{Four, valueOf, signOf, fourOf, signsOf, widthNext, groupOf}
+use Rattle.format.specs.Coefficients.{Four, valueOf, signOf, signsOf, widthNext, groupOf}
 use Rattle.rows.specs.Word.{changeOf, scaledOf, nonzeroOf, signedOf, Quad, splitOf, withSigns, quadOf}
 use Rattle.rows.specs.declared.Change.{Change}
 use Rattle.rows.proofs.Numbers.{le-shl, value-plain, value-none, value-some}
@@ -196,9 +195,6 @@ module _ (s : List ℕ) (r : Reader) (x sel : ℕ) (below : sel < 16) (fits : x 
         let lb = nonzero-le (q .b) in
         let lc = nonzero-le (q .c) in
         simp (sign-first (q .a) a, sign-at (q .b) n1 b (omega arith), sign-at (q .c) n2 c (omega arith), sign-at (q .d) n3 d (omega arith))
-
-    pub signs-le : with-signs .used ≤ 4
-    signs-le = omega (arith, nonzero-le (q .a), nonzero-le (q .b), nonzero-le (q .c), nonzero-le (q .d))
 
 -- a group out of a word
 module _ (s : List ℕ) (r : Reader) (sel w word g : ℕ) (go : r .status ≡ 0) (fits : word < 2 ^ 64)

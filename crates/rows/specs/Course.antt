@@ -1,13 +1,22 @@
 -- The course of a row: that what is decoded so far, and what the rest gives, make the whole row.
 use mathlib.Core.Path.{_≡_}
 use mathlib.Core.List.{List, _++_}
+use mathlib.Core.Logic.{_⊎_}
 use Prim.Native.Nat.{ℕ, _+_, _-_, _/_, _≤_, _<_}
 use lib.IntN.{ℤ}
 use lib.ListN.{length, take}
 use Rattle.format.specs.Reader.{Reader, Taken}
 use Rattle.format.specs.Coefficients.{Part, rowFrom}
 use Rattle.bits.specs.declared.BitReader.{BitReader}
-use Rattle.bits.specs.View.{Ready}
+use Rattle.bits.specs.View.{asReader, Ready}
+
+-- a width and a reader
+abbrev pub stateOf : ℕ → BitReader → Taken
+stateOf width reader = record { value = width; reader = asReader reader }
+
+-- the rest of the row is zero: a status that is not 0, or a width above 19
+abbrev pub Halted : Taken → Type 0
+Halted t = (t .reader .status ≡ 0 → ⊥) ⊎ ((t .reader .status ≡ 0) × (19 < t .value))
 
 -- the first i elements of d and then l, cut to the length of d
 abbrev pub filled : List ℤ → ℕ → List ℤ → List ℤ

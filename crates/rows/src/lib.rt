@@ -1,8 +1,8 @@
 // One row of coefficients.
 ghost use mathlib.Core.Path.{_≡_};
-ghost use mathlib.Core.Bool.{true, cond};
-ghost use mathlib.Core.List.{List, [], _∷_, _++_};
-ghost use Prim.Native.Nat.{ℕ, _+_, _-_, _*_, _/_, _%_, _^_, _<_, _≤_, min};
+ghost use mathlib.Core.Bool.{true, false, cond};
+ghost use mathlib.Core.List.{List, _++_};
+ghost use Prim.Native.Nat.{_+_, _-_, _*_, _%_, _^_, _<_, _≤_, min};
 ghost use lib.IntN.{ℤ, pos, negℤ};
 ghost use lib.Signed.{ltZ};
 ghost use lib.Dec.{eqb};
@@ -11,7 +11,7 @@ ghost use Rattle.format.specs.Coefficients.{valueOf, signOf, signsOf, widthAfte
 ghost use Rattle.bits.specs.View.{asReader, asTaken, asFour, Ready};
 ghost use Rattle.rows.specs.View.{asSigned, asSignedFour, asGroup, asRun};
 ghost use Rattle.rows.specs.Word.{signBitOf, changeOf, scaledOf, nonzeroOf, signedOf, splitOf, Narrow, quadOf, storeQuad, Near};
-ghost use Rattle.rows.specs.Course.{filled, movedTo, Onward, Done};
+ghost use Rattle.rows.specs.Course.{stateOf, filled, movedTo, Halted, Onward, Done};
 use bits::BitReader;
 use bits::Four;
 use bits::Taken;
@@ -20,11 +20,13 @@ use bits::less;
 use words::whole;
 use wrap32::cut32;
 
+// A coefficient, and the reader after it.
 pub struct Signed {
     pub value: i32,
     pub reader: BitReader,
 }
 
+// Four coefficients, and the reader after them.
 pub struct SignedFour {
     pub a: i32,
     pub b: i32,
@@ -72,6 +74,7 @@ fn sign(z: i32, reader: BitReader, packet: &[u8]) -> Signed
     Signed { value: z, reader }
 }
 
+// A group, and the width and the reader after it.
 pub struct GroupAnswer {
     pub a: i32,
     pub b: i32,
@@ -81,6 +84,7 @@ pub struct GroupAnswer {
     pub reader: BitReader,
 }
 
+// A run of zero groups, and the width and the reader after it.
 pub struct RunAnswer {
     pub groups: u64,
     pub width: u64,
@@ -118,18 +122,19 @@ pub struct SignBit {
     pub used: u64,
 }
 
-fn sign_bit(z: i32, word: u64, used: u64) -> SignBit
+// A value with its sign from a word of four sign bits, of which some are used.
+fn sign_bit(v: i32, word: u64, used: u64) -> SignBit
     requires { ⌜ used < 4 ⌝ }
-    ensures { λ r. ⌜ r ≡ signBitOf z word used ⌝ }
+    ensures { λ r. ⌜ r ≡ signBitOf v word used ⌝ }
     ensures { λ r. ⌜ r .used ≤ used + 1 ⌝ }
 {
-    if 0 < z {
+    if 0 < v {
         return SignBit {
-            value: with_sign(z, (word >> (3 - used)) % 2),
+            value: with_sign(v, (word >> (3 - used)) % 2),
             used: used + 1,
         };
     }
-    SignBit { value: z, used }
+    SignBit { value: v, used }
 }
 
 // The signs of four values. One word holds them all, but near the end of the allowance.
@@ -189,7 +194,7 @@ fn width_next(reader: BitReader, packet: &[u8], width: u64, groups: u64) -> Take
 fn group(reader: BitReader, packet: &[u8], width: u64, selector: u64, groups: u64) -> GroupAnswer
     requires { ⌜ Ready (now packet) reader ⌝ }
     requires { ⌜ (width ≤ 19) × (selector < 16) ⌝ }
-    ensures { λ r. ⌜ asGroup r ≡ groupOf (now (packet .entry)) selector groups (record { value = width; reader = asReader reader }) ⌝ }
+    ensures { λ r. ⌜ asGroup r ≡ groupOf (now (packet .entry)) selector groups (stateOf width reader) ⌝ }
     ensures { λ r. ⌜ Ready (now (packet .entry)) (r .reader) ⌝ }
 {
     let q = reader.read4(packet, width);
@@ -248,6 +253,7 @@ fn stop(reader: BitReader) -> BitReader
     }
 }
 
+// A value at a place, if the slice has it.
 fn put(dst: &mut [i32], i: usize, v: i32)
     ensures { λ r. ⌜ now (dst .exit) ≡ set (now (dst .entry)) i v ⌝ }
 {
@@ -256,6 +262,7 @@ fn put(dst: &mut [i32], i: usize, v: i32)
     }
 }
 
+// The lesser of two numbers.
 fn lower(a: usize, b: usize) -> usize
     ensures { λ r. ⌜ r ≡ min a b ⌝ }
 {
@@ -286,11 +293,13 @@ fn put4(dst: &mut [i32], i: usize, a: i32, b: i32, c: i32, d: i32)
     put(dst, i + 3, d);
 }
 
+// A width, and the bits that its update took.
 pub struct Change {
     pub width: u64,
     pub used: u64,
 }
 
+// One of two numbers, without a branch.
 fn pick(t: bool, a: u64, b: u64) -> u64
     ensures { λ r. ⌜ r ≡ cond t a b ⌝ }
 {
@@ -321,6 +330,7 @@ fn nonzero(u: u64) -> u64
     if u == 0 { 0 } else { 1 }
 }
 
+// A magnitude as a number above or at 0.
 fn plus(m: u64) -> i32
     requires { ⌜ m < 2 ^ 31 ⌝ }
     ensures { λ r. ⌜ r ≡ pos m ⌝ }
@@ -328,6 +338,7 @@ fn plus(m: u64) -> i32
     m as i32
 }
 
+// And as one below or at 0.
 fn opposite(m: u64) -> i32
     requires { ⌜ m < 2 ^ 31 ⌝ }
     ensures { λ r. ⌜ r ≡ negℤ (pos m) ⌝ }
@@ -353,6 +364,7 @@ fn scaled(u: u64, half: u64) -> u64
     ((2 * u + nonzero(u)) << half) - u % 2
 }
 
+// Four values of a word.
 pub struct Split {
     pub a: u64,
     pub b: u64,
@@ -454,6 +466,7 @@ fn near(width: u64, out: usize, n: usize, place: u64, end: u64) -> bool
     place < end
 }
 
+// A reader further on in its allowance.
 fn moved(reader: BitReader, place: u64) -> BitReader
     requires { ⌜ (reader .place ≤ place) × (place ≤ reader .place + reader .remaining) × (reader .place + reader .remaining < 2 ^ 40) ⌝ }
     ensures { λ r. ⌜ asReader r ≡ movedTo (asReader reader) place ⌝ }
@@ -461,10 +474,11 @@ fn moved(reader: BitReader, place: u64) -> BitReader
     reader.skip(place - reader.place)
 }
 
+// Groups out of single words, as long as each stands whole in its word and is not the row's last; selector 0.
 fn fast(reader: BitReader, packet: &[u8], width: u64, dst: &mut [i32], out: usize) -> Next
     requires { ⌜ Ready (now packet) reader ⌝ }
     requires { ⌜ (reader .status ≡ 0) × (length (now dst) < 2 ^ 32) × (out < length (now dst)) ⌝ }
-    ensures { λ r. ⌜ Onward (now (packet .entry)) 0 (now (dst .entry)) out (record { value = width; reader = asReader reader }) (now (dst .exit)) (r .out) (record { value = r .width; reader = asReader (r .reader) }) ⌝ }
+    ensures { λ r. ⌜ Onward (now (packet .entry)) 0 (now (dst .entry)) out (stateOf width reader) (now (dst .exit)) (r .out) (stateOf (r .width) (r .reader)) ⌝ }
     ensures { λ r. ⌜ Done (now (packet .entry)) (length (now (dst .entry))) out width (r .out) (r .width) (r .reader) ⌝ }
 {
     let n = dst.len();
@@ -495,6 +509,7 @@ fn fast(reader: BitReader, packet: &[u8], width: u64, dst: &mut [i32], out: usiz
     }
 }
 
+// The same under the selector half + 1.
 fn fast_scaled(
     reader: BitReader,
     packet: &[u8],
@@ -505,7 +520,7 @@ fn fast_scaled(
 ) -> Next
     requires { ⌜ Ready (now packet) reader ⌝ }
     requires { ⌜ (reader .status ≡ 0) × (length (now dst) < 2 ^ 32) × (out < length (now dst)) × (half < 15) ⌝ }
-    ensures { λ r. ⌜ Onward (now (packet .entry)) (half + 1) (now (dst .entry)) out (record { value = width; reader = asReader reader }) (now (dst .exit)) (r .out) (record { value = r .width; reader = asReader (r .reader) }) ⌝ }
+    ensures { λ r. ⌜ Onward (now (packet .entry)) (half + 1) (now (dst .entry)) out (stateOf width reader) (now (dst .exit)) (r .out) (stateOf (r .width) (r .reader)) ⌝ }
     ensures { λ r. ⌜ Done (now (packet .entry)) (length (now (dst .entry))) out width (r .out) (r .width) (r .reader) ⌝ }
 {
     let n = dst.len();
@@ -536,6 +551,7 @@ fn fast_scaled(
     }
 }
 
+// The same under any selector.
 fn quick(
     reader: BitReader,
     packet: &[u8],
@@ -546,7 +562,7 @@ fn quick(
 ) -> Next
     requires { ⌜ Ready (now packet) reader ⌝ }
     requires { ⌜ (reader .status ≡ 0) × (length (now dst) < 2 ^ 32) × (out < length (now dst)) × (selector < 16) ⌝ }
-    ensures { λ r. ⌜ Onward (now (packet .entry)) selector (now (dst .entry)) out (record { value = width; reader = asReader reader }) (now (dst .exit)) (r .out) (record { value = r .width; reader = asReader (r .reader) }) ⌝ }
+    ensures { λ r. ⌜ Onward (now (packet .entry)) selector (now (dst .entry)) out (stateOf width reader) (now (dst .exit)) (r .out) (stateOf (r .width) (r .reader)) ⌝ }
     ensures { λ r. ⌜ Done (now (packet .entry)) (length (now (dst .entry))) out width (r .out) (r .width) (r .reader) ⌝ }
 {
     if selector == 0 {
@@ -555,6 +571,7 @@ fn quick(
     fast_scaled(reader, packet, width, selector - 1, dst, out)
 }
 
+// Groups of four values: those out of single words, then one as it is read.
 fn groups(
     reader: BitReader,
     packet: &[u8],
@@ -565,7 +582,7 @@ fn groups(
 ) -> Next
     requires { ⌜ Ready (now packet) reader ⌝ }
     requires { ⌜ (reader .status ≡ 0) × (length (now dst) < 2 ^ 32) × (out < length (now dst)) × (selector < 16) × (1 ≤ width) × (width ≤ 19) ⌝ }
-    ensures { λ r. ⌜ Onward (now (packet .entry)) selector (now (dst .entry)) out (record { value = width; reader = asReader reader }) (now (dst .exit)) (r .out) (record { value = r .width; reader = asReader (r .reader) }) ⌝ }
+    ensures { λ r. ⌜ Onward (now (packet .entry)) selector (now (dst .entry)) out (stateOf width reader) (now (dst .exit)) (r .out) (stateOf (r .width) (r .reader)) ⌝ }
     ensures { λ r. ⌜ (out < r .out) × (r .out < length (now (dst .entry)) + 4) × Ready (now (packet .entry)) (r .reader) ⌝ }
 {
     let f = quick(reader, packet, width, selector, dst, out);
@@ -589,6 +606,16 @@ fn groups(
     }
 }
 
+// Whether the rest of a row is zero.
+fn halts(reader: BitReader, width: u64) -> bool
+    ensures { λ r. ⌜ (r ≡ true → Halted (stateOf width reader)) × (r ≡ false → (reader .status ≡ 0) × (width ≤ 19)) ⌝ }
+{
+    if reader.status != 0 {
+        return true;
+    }
+    19 < width
+}
+
 // One row of coefficients, as many as the slice has elements.
 pub fn decode_component(
     reader: BitReader,
@@ -609,11 +636,7 @@ pub fn decode_component(
     let mut out: usize = 0;
     while out < n {
         let left = (n - out + 3) / 4;
-        if r.status != 0 {
-            clear(dst, out, 4 * left);
-            return stop(r);
-        }
-        if 19 < width {
+        if halts(r, width) {
             clear(dst, out, 4 * left);
             return stop(r);
         }

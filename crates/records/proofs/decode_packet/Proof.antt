@@ -3,7 +3,7 @@ use borrow.Author.Needs.{needs}
 use borrow.Rule.Slice.PartMut.{same-len-mid}
 use mathlib.Core.Path.{_≡_, refl, sym, ap, _∙_}
 use mathlib.Core.List.{List}
-use Prim.Native.Nat.{ℕ, suc, _+_, _-_, _*_, _≤_, _<_, _^_, min}
+use Prim.Native.Nat.{ℕ, _+_, _-_, _*_, _≤_, _<_, _^_, min}
 use native.Mathlib.Omega.{arith}
 use native.Mathlib.Nat.{suc-mul, zero-mul}
 use native.Mathlib.Numerals.{add-one}
@@ -12,7 +12,6 @@ use lib.Seq.{take-all}
 use Rattle.lists.specs.Lists.{rows}
 use Rattle.format.specs.Packets.{sum, kind, blocks, payloadAt}
 use Rattle.format.specs.Coefficients.{recordOf, recordValues, packetValues, packetStopped}
-use Rattle.format.proofs.BitLaws.{bits-lt}
 use Rattle.records.proofs.Walk.{rows-le, size-le, stretch-fits, payload-le, payload-first, payload-next, stretch-first, stretch-next, stopped-first, stopped-next}
 use Rattle.records.proofs.decode_packet.Statement.{statement}
 use Rattle.records.proofs.decode_packet.Tie as tie

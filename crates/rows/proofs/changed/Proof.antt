@@ -1,15 +1,13 @@
 -- `changed` meets its contract. Assumes nothing.
 use borrow.Author.Needs.{needs}
 use native.Mathlib.Omega.{arith}
-use Prim.Native.Nat.{ℕ, _+_, _*_, _%_, _^_, _≤_}
+use Prim.Native.Nat.{_+_, _*_, _%_, _^_, _≤_}
 use lib.Dec.{ltb}
 use lib.Count.{leadingZeros, leading-le}
 use Rattle.rows.specs.Word.{changeOf}
 use Rattle.rows.proofs.WordLaws.{cond-le}
 use Rattle.rows.proofs.changed.Statement.{statement}
 use Rattle.rows.proofs.changed.Tie as tie
-use Rattle.bits.proofs.least.Reads as least-reads
-use Rattle.bits.proofs.less.Reads as less-reads
 
 cast-z : tie.Need-cast-z
 cast-z c = omega (arith, leading-le 64 (c .args .word * 2 ^ 2 % 2 ^ 64))

@@ -1,13 +1,11 @@
 -- `fast_scaled` meets its contract. Assumes nothing.
 use native.Mathlib.Omega.{arith}
-use borrow.Author.Needs.{needs}
 use mathlib.Core.Path.{refl}
-use Prim.Native.Nat.{_-_, ℕ, _+_, _*_}
+use Prim.Native.Nat.{_-_, _+_}
 use lib.ListN.{length}
 use Rattle.rows.proofs.Steps.{Turn, turn-first, turn-next, turn-last}
 use Rattle.rows.proofs.fast_scaled.Statement.{statement}
 use Rattle.rows.proofs.fast_scaled.Tie as tie
-use Rattle.words.proofs.whole.Reads as whole-reads
 
 abbrev Inv-loop : tie.InvT-loop
 Inv-loop reader packet width half dst₀ out n end place₀ w₀ i₀ dst place w i = Turn packet (half + 1) dst₀ out width reader dst place w i

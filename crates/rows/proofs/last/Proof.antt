@@ -4,7 +4,7 @@ use native.Mathlib.Omega.{arith}
 use lib.Pow.{shl-exact, pow-pos, pow-mono}
 use native.Mathlib.Nat.{lt-of-lt-of-le, mod-lt}
 use mathlib.Core.Path.{_≡_, ap, _∙_}
-use Prim.Native.Nat.{ℕ, _*_, _%_, _^_, _<_, _≤_}
+use Prim.Native.Nat.{ℕ, _*_, _%_, _^_, _≤_}
 use Rattle.rows.proofs.last.Statement.{statement}
 use Rattle.rows.proofs.last.Tie as tie
 

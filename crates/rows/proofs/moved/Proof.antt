@@ -1,8 +1,8 @@
 -- `moved` meets its contract. Assumes nothing.
 use borrow.Author.Needs.{needs}
 use native.Mathlib.Omega.{arith}
-use mathlib.Core.Path.{_≡_, ap, _∙_}
-use Prim.Native.Nat.{ℕ, _-_, _+_}
+use mathlib.Core.Path.{_≡_, _∙_}
+use Prim.Native.Nat.{_-_, _+_}
 use Rattle.rows.proofs.moved.Statement.{statement}
 use Rattle.rows.proofs.moved.Tie as tie
 

@@ -1,6 +1,5 @@
 -- `near` meets its contract. Assumes nothing.
 use borrow.Author.Needs.{needs}
-use native.Mathlib.Omega.{arith}
 use mathlib.Core.Bool.{true≢false}
 use mathlib.Core.Path.{sym}
 use Rattle.rows.proofs.near.Statement.{statement}

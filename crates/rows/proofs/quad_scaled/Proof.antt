@@ -2,12 +2,11 @@
 use borrow.Author.Needs.{needs}
 use native.Mathlib.Omega.{arith}
 use lib.ListN.{length-set}
-use mathlib.Core.Path.{_≡_, _∙_}
+use mathlib.Core.Path.{_∙_}
 use mir.Syntax.{w32}
 use mir.Val.{SFits}
 use mir.ValLaws.{toZ-ofZ}
 use Rattle.rows.specs.Word.{quadOf}
-use Rattle.rows.proofs.WordLaws.{scaled-zero}
 use Rattle.rows.proofs.quad_scaled.Statement.{statement}
 use Rattle.rows.proofs.quad_scaled.Tie as tie
 

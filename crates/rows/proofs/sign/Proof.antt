@@ -1,10 +1,6 @@
 -- `sign` meets its contract. Assumes nothing.
 use borrow.Author.Needs.{needs}
-use mathlib.Core.Path.{_≡_, ap, sym, _∙_}
-use mathlib.Core.Bool.{Bool, true, cond}
-use lib.IntN.{ℤ, pos}
-use lib.Signed.{ltZ}
-use lib.Dec.{eqb}
+use mathlib.Core.Path.{_∙_}
 use mir.Syntax.{w32}
 use mir.Val.{SFits}
 use mir.ValLaws.{toZ-ofZ}

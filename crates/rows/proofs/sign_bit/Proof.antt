@@ -1,6 +1,6 @@
 -- `sign_bit` meets its contract. Assumes nothing.
 use borrow.Author.Needs.{needs}
-use mathlib.Core.Path.{_≡_, ap, sym, _∙_}
+use mathlib.Core.Path.{_∙_}
 use native.Mathlib.Omega.{arith}
 use mir.Syntax.{w32}
 use mir.Val.{SFits}
@@ -13,7 +13,7 @@ returns : tie.Need-returns
 unfolding signBitOf
 returns c =
     let a = c .before .before in
-    let z = toZ-ofZ w32 (a .args .z) (a .fits .z) in
+    let z = toZ-ofZ w32 (a .args .v) (a .fits .v) in
     let range : SFits w32 (c .with-sign .result) = search needs in
     (simp (z, rw z at (c .before .if1 .taken), toZ-ofZ w32 (c .with-sign .result) range ∙ c .with-sign .ensures), omega arith)
 
@@ -21,7 +21,7 @@ returns-2 : tie.Need-returns-2
 unfolding signBitOf
 returns-2 c =
     let a = c .before in
-    let z = toZ-ofZ w32 (a .args .z) (a .fits .z) in
+    let z = toZ-ofZ w32 (a .args .v) (a .fits .v) in
     (simp (z, rw z at (c .if1 .left)), omega arith)
 
 pub sign-bit-spec : {M : Type 1} → statement M

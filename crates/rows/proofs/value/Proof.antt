@@ -4,7 +4,7 @@ use mathlib.Core.Path.{_≡_, ap, sym, _∙_}
 use Prim.Native.Nat.{ℕ, _-_, _+_, _*_, _^_, _%_, _<_, _≤_}
 use native.Mathlib.Nat.{lt-of-lt-of-le}
 use native.Mathlib.Omega.{arith}
-use lib.IntN.{ℤ, pos}
+use lib.IntN.{pos}
 use lib.Pow.{shl-lt, pow-mono}
 use mir.Syntax.{w32, w64}
 use mir.Val.{SFits, toZ}

@@ -2,7 +2,7 @@
 use borrow.Author.Needs.{needs}
 use mathlib.Core.Path.{ap, sym, _∙_}
 use native.Mathlib.Omega.{arith}
-use Rattle.format.specs.Reader.{Reader, Taken, unaryOf, findOf, kept}
+use Rattle.format.specs.Reader.{Reader, unaryOf, findOf, kept}
 use Rattle.bits.specs.View.{asReader, asTaken}
 use Rattle.bits.proofs.Update.{update-zero, update-stopped, update-stopped-2, update-grown, update-shrunk, find-none, grown-zero, shrunk-zero}
 use Rattle.bits.proofs.BitReader.width_start.Statement.{statement}

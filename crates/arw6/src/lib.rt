@@ -1,0 +1,27 @@
+// The library for C: include/arw6.h declares these functions.
+ghost use mathlib.Core.Path.{_≡_};
+ghost use lib.ListN.{length};
+ghost use Rattle.format.specs.Strip.{tilesOf};
+ghost use Rattle.strip.specs.Answers.{tileField};
+
+// How many tiles a strip has in a frame.
+#[no_mangle]
+pub extern "C" fn arw6_tile_count(strip: &[u8], frame_width: usize, frame_height: usize) -> usize
+    ensures { λ r. ⌜ r ≡ length (tilesOf (now (strip .entry)) «frame_width» «frame_height») ⌝ }
+{
+    strip::tile_count(strip, frame_width, frame_height)
+}
+
+// Field 0 to 5 of a tile, from 0: offset, length, x, y, width, height. One that isn't there gives 0.
+#[no_mangle]
+pub extern "C" fn arw6_tile_field(
+    strip: &[u8],
+    frame_width: usize,
+    frame_height: usize,
+    ordinal: usize,
+    field: usize,
+) -> usize
+    ensures { λ r. ⌜ r ≡ tileField (tilesOf (now (strip .entry)) «frame_width» «frame_height») ordinal field ⌝ }
+{
+    strip::tile_field(strip, frame_width, frame_height, ordinal, field)
+}

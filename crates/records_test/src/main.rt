@@ -1,0 +1,156 @@
+// Runs `records::decode_packet` over packets from standard input, and compares its coefficients and its count with those that stand
+// beside each packet. A case is six little-endian words (the packet's length, kind, m, columns, records, stopped records), the packet's
+// bytes, and a word for each coefficient.
+ghost use Prim.Native.Nat.{_+_, _*_, _<_, _≤_, _^_};
+ghost use lib.ListN.{length};
+use words::field;
+
+fn wide(x: u8) -> usize
+    ensures { λ r. ⌜ r < 256 ⌝ }
+{
+    x as usize
+}
+
+// The little-endian word at a byte.
+fn word(b: &[u8], at: usize) -> usize
+    requires { ⌜ at + 4 ≤ length (now b) ⌝ }
+    ensures { λ r. ⌜ r < 2 ^ 32 ⌝ }
+{
+    wide(b[at])
+        + 0x100 * wide(b[at + 1])
+        + 0x1_0000 * wide(b[at + 2])
+        + 0x100_0000 * wide(b[at + 3])
+}
+
+// Whether the band holds the words of b.
+fn same(band: &[i32], b: &[u8]) -> bool
+    requires { ⌜ 4 * length (now band) ≤ length (now b) ⌝ }
+{
+    let mut i = 0;
+    while i < band.len() {
+        if band[i] != wrap32::cut32(word(b, 4 * i) as i64) {
+            return false;
+        }
+        i += 1;
+    }
+    true
+}
+
+// Decodes a packet, and answers how many records stopped; 999 where the packet and the sizes do not go together.
+fn stopped_of(packet: &[u8], m: usize, cols: usize, n: usize, band: &mut [i32]) -> usize
+    requires { ⌜ (m < 256) × (cols < 256) × (n < 256) ⌝ }
+{
+    if packet.len() < 16 {
+        return 999;
+    }
+    if 8 < m {
+        return 999;
+    }
+    if n < field(packet, 56, 16) {
+        return 999;
+    }
+    if band.len() != n * (field(packet, 48, 2) * m * cols) {
+        return 999;
+    }
+    records::decode_packet(packet, m, cols, n, band) as usize
+}
+
+// A size of the case, cut to a byte.
+fn small(head: &[u8], at: usize) -> usize
+    requires { ⌜ at + 4 ≤ length (now head) ⌝ }
+    ensures { λ r. ⌜ r < 256 ⌝ }
+{
+    word(head, at) % 256
+}
+
+// The coefficients of the case.
+fn total(head: &[u8]) -> usize
+    requires { ⌜ 24 ≤ length (now head) ⌝ }
+    ensures { λ r. ⌜ r < 2 ^ 32 ⌝ }
+{
+    small(head, 16) * (small(head, 4) * small(head, 8) * small(head, 12))
+}
+
+// Whether the packet gives the coefficients and the count that it should.
+fn right_case(head: &[u8], packet: &[u8], want: &[u8], band: &mut [i32]) -> bool
+    requires { ⌜ (24 ≤ length (now head)) × (4 * length (now band) ≤ length (now want)) ⌝ }
+{
+    let stopped = stopped_of(
+        packet,
+        small(head, 8),
+        small(head, 12),
+        small(head, 16),
+        band,
+    );
+    if stopped != word(head, 20) {
+        return false;
+    }
+    same(band, want)
+}
+
+// Reads the packet and the coefficients of a case, and compares.
+fn read_case(head: &[u8], packet: &mut [u8], want: &mut [u8], band: &mut [i32]) -> bool
+    requires { ⌜ 24 ≤ length (now head) ⌝ }
+{
+    let bytes = word(head, 0);
+    let n = total(head);
+    let end = 4 * n;
+    if packet.len() < bytes {
+        return false;
+    }
+    if want.len() < end {
+        return false;
+    }
+    if band.len() < n {
+        return false;
+    }
+    if io::read_full(0, &mut packet[0..bytes]) < bytes {
+        return false;
+    }
+    if io::read_full(0, &mut want[0..end]) < end {
+        return false;
+    }
+    right_case(head, &packet[0..bytes], &want[0..end], &mut band[0..n])
+}
+
+// Whether the next case comes out as it should.
+fn next_case() -> bool {
+    let mut head = [0u8; 24];
+    let mut packet = [0u8; 4096];
+    let mut want = [0u8; 4096];
+    let mut band = [1i32; 1024];
+    if io::read_full(0, &mut head) < 24 {
+        return false;
+    }
+    read_case(&head, &mut packet, &mut want, &mut band)
+}
+
+// How many of the cases that follow come out as they should.
+fn run(cases: usize) -> usize
+    ensures { λ r. ⌜ r ≤ cases ⌝ }
+{
+    let mut right = 0;
+    let mut i = 0;
+    while i < cases {
+        if next_case() {
+            right += 1;
+        }
+        i += 1;
+    }
+    right
+}
+
+// As many cases as the first word says.
+fn main() {
+    let mut first = [0u8; 4];
+    let got = io::read_full(0, &mut first);
+    if got < 4 {
+        return;
+    }
+    let cases = word(&first, 0);
+    let right = run(cases);
+    io::print_decimal(1, right as u64);
+    io::write_all(1, b" as they should be, ");
+    io::print_decimal(1, (cases - right) as u64);
+    io::write_all(1, b" not\n");
+}

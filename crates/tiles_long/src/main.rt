@@ -1,0 +1,4 @@
+// `tiles` on 65,537 bytes.
+fn main() {
+    listing::run();
+}

@@ -1,0 +1,4 @@
+// `tiles` on a strip with no tile in its frame.
+fn main() {
+    listing::run();
+}

@@ -1,0 +1,4 @@
+// `tiles` on 7 bytes.
+fn main() {
+    listing::run();
+}

@@ -1,0 +1,4 @@
+// `tiles` on a table of three tiles.
+fn main() {
+    listing::run();
+}
