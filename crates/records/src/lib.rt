@@ -65,7 +65,7 @@ fn selector_of(v: Selectors, m: usize, k: usize) -> u64
 }
 
 // Zeros in all of a slice.
-fn clear(s: &mut [i32])
+pub fn clear(s: &mut [i32])
     ensures { λ r. ⌜ now (s .exit) ≡ zeros (length (now (s .entry))) ⌝ }
 {
     let n = s.len();

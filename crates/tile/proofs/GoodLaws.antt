@@ -10,10 +10,10 @@ use lib.IntN.{ℤ}
 use lib.ListN.{length, length-append}
 use Rattle.lists.specs.Lists.{putAt}
 use Rattle.lists.proofs.Part.{put-next}
-use Rattle.format.specs.Sizes.{Colour, index, l1, l2, l3, Group, base, detail, final, number, stripes, multiplier, columns, components}
+use Rattle.format.specs.Sizes.{Colour, green, index, l1, l2, l3, Group, base, detail, final, number, stripes, multiplier, columns, components}
 use Rattle.format.specs.Strip.{width, codedHeight}
 use Rattle.format.specs.Packets.{packetOf, kind}
-use Rattle.format.specs.Coefficients.{packetValues, packetStopped, groupStopped, planeStopped}
+use Rattle.format.specs.Coefficients.{packetValues, packetStopped, groupStopped, planeStopped, stoppedOf}
 use Rattle.format.proofs.Exact.{Coded, levelled}
 use Rattle.packets.specs.Answers.{colourOf}
 use Rattle.packets.proofs.AnswerLaws.{index-of}
@@ -44,6 +44,10 @@ module _ (s : List ℕ) (good : Good s) where
         records = omega (arith, p .few, e);
         few = omega (arith, e, good .low);
       }
+
+  -- group 4's packet
+  pub final-readable : (n : ℕ) → n ≡ stripes (codedHeight s) → Readable s 4 0 (n + 1)
+  final-readable n e = ok-readable final 0 n (omega arith) (omega arith) e (good .packets final green refl)
 
   module _ (k : ℕ) (h : k < 3) where
     packet-ok : (g : Group) → T (levelled g) → PacketOk s g k
@@ -102,3 +106,16 @@ module _ (w n : ℕ) (whole : w % 16 ≡ 0) where
 
   pub size-3 : 48 * unit w n ≡ (n + 1) * (3 * 4 * (w / 4))
   size-3 = let e : w / 4 ≡ 4 * (w / 16) = omega arith in rw e (omega arith)
+
+  pub size-4 : 64 * unit w n ≡ (n + 1) * (1 * 8 * (w / 2))
+  size-4 = let e : w / 2 ≡ 8 * (w / 16) = omega arith in rw e (omega arith)
+
+-- the stopped records of green
+pub stopped-sum : (s : List ℕ) (w : ℕ) → w ≡ width s → {a b : ℕ} → a ≡ planeStopped s green → b ≡ packetStopped (packetOf s 4 0) 8 (w / 2) → a + b ≡ planeStopped s green + groupStopped s final green
+unfolding groupStopped
+stopped-sum s w d e f = (λ j. e j + f j) ∙ ap (λ (k : ℕ). planeStopped s green + packetStopped (packetOf s 4 0) 8 (k / 2)) d
+
+-- and of the tile
+pub stopped-all : (s : List ℕ) {a b c : ℕ} → c ≡ planeStopped s green + groupStopped s final green → a ≡ planeStopped s (colourOf 1) → b ≡ planeStopped s (colourOf 2) → c + a + b ≡ stoppedOf s
+unfolding stoppedOf
+stopped-all s d e f = omega (arith, d, e, f)

@@ -1,3 +1,4 @@
 pub mod HeldLaws
 pub mod StoppedLaws
 pub mod GoodLaws
+pub mod PlaneLaws

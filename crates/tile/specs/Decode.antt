@@ -7,8 +7,11 @@ use lib.IntN.{ℤ}
 use lib.ListN.{length, drop}
 use Rattle.format.specs.Sizes.{Colour, stripes, guarded}
 use Rattle.format.specs.Strip.{width, codedHeight}
+use Rattle.format.specs.Refusals.{refusal}
 use Rattle.format.specs.Coefficients.{coefs}
 use Rattle.format.specs.Synthesis.{planes}
+use Rattle.format.specs.Tile.{Answer}
+use Rattle.tile.specs.declared.Decoded.{Decoded}
 
 -- a stream's width, its n, and whether its height is guarded
 pub record Measured (s : List ℕ) (w n : ℕ) (g : Bool) : Type 0 where
@@ -19,3 +22,15 @@ pub record Measured (s : List ℕ) (w n : ℕ) (g : Bool) : Type 0 where
 -- the plane of an index of a stream
 abbrev pub planeOf : List ℕ → Colour → List ℤ
 planeOf s i = planes (width s) (codedHeight s) (coefs s) i
+
+-- a list whose first places are replaced
+abbrev pub onto : List ℤ → List ℤ → List ℤ
+onto given old = given ++ drop (length given) old
+
+-- the refusal of a stream where these slices are lent, 0 for none
+abbrev pub refusalOf : List ℕ → List ℤ → List ℤ → List ℤ → List ℤ → ℕ
+refusalOf s full red blue work = refusal s (length full) (length red) (length blue) (length work)
+
+-- document 01's answer, as the code has it
+abbrev pub decodedOf : Answer → Decoded
+decodedOf a = record { refusal = a .refusal; width = a .width; height = a .height; rows = a .rows; stopped = a .stopped }

@@ -1,21 +1,38 @@
 // One tile: every refusal first, then coefficients and planes. Document 01, 'Planes'.
+use green::final_green;
+use levels::averages;
 use levels::colour_plane;
+use packets::check;
 use packets::packet;
+use records::clear;
 use records::decode_packet;
 ghost use mathlib.Core.Path.{_≡_};
 ghost use Prim.Native.Nat.{_+_, _*_, _/_, _^_, _<_, _≤_};
 ghost use lib.ListN.{length};
 ghost use Rattle.lists.specs.Lists.{putAt};
-ghost use Rattle.format.specs.Sizes.{stripes, planeRows};
+ghost use Rattle.format.specs.Sizes.{green, red, blue, final, stripes, planeRows, planeRowsOf, workLength};
 ghost use Rattle.format.specs.Strip.{width, codedHeight};
 ghost use Rattle.format.specs.Packets.{packetOf, kind};
-ghost use Rattle.format.specs.Coefficients.{packetValues, packetStopped, planeStopped};
-ghost use Rattle.packets.specs.Answers.{colourOf};
-ghost use Rattle.passes.specs.Held.{unit};
-ghost use Rattle.tile.specs.Coefficients.{planeValues};
+ghost use Rattle.format.specs.Coefficients.{zeros, packetValues, packetStopped, groupStopped, planeStopped, stoppedOf};
+ghost use Rattle.format.specs.Tile.{answerOf, planeAfter, workAfter};
 ghost use Rattle.format.proofs.Accepted.{Good};
+ghost use Rattle.packets.specs.Answers.{colourOf};
+ghost use Rattle.format.specs.Synthesis.{outcome};
+ghost use Rattle.passes.specs.Held.{unit, Sized};
+ghost use Rattle.levels.specs.Levels.{coefsIn, Stands};
+ghost use Rattle.tile.specs.Coefficients.{planeValues};
 ghost use Rattle.tile.specs.Readable.{Readable};
-ghost use Rattle.tile.specs.Decode.{Measured, planeOf};
+ghost use Rattle.tile.specs.Decode.{Measured, planeOf, onto, refusalOf, decodedOf};
+
+// A refusal with every other field 0, or 0 with the coded size, the rows of the planes and the count of stopped records.
+#[repr(C)]
+pub struct Decoded {
+    pub refusal: u64,
+    pub width: u64,
+    pub height: u64,
+    pub rows: u64,
+    pub stopped: u64,
+}
 
 // The records of packet k of group g, n of them, into work: `size` numbers from `at` on. How many stopped.
 fn decode_band(stream: &[u8], g: usize, k: usize, m: usize, cols: usize, n: usize, work: &mut [i32], at: usize, size: usize) -> u64
@@ -44,14 +61,53 @@ fn decode_levels(stream: &[u8], k: usize, w: usize, n: usize, work: &mut [i32]) 
     a + b + d + e
 }
 
-// The plane of red (1) or blue (2); `ring` is lent for rows in passing. How many records stopped.
-fn decode_colour(stream: &[u8], k: usize, w: usize, n: usize, guarded: bool, work: &mut [i32], ring: &mut [i32], plane: &mut [i32]) -> u64
+// The plane of red (1) or blue (2); rows in passing stand at the start of green's. How many records stopped.
+fn decode_colour(stream: &[u8], k: usize, w: usize, n: usize, guarded: bool, work: &mut [i32], full: &mut [i32], plane: &mut [i32]) -> u64
     requires { ⌜ Good (now stream) ⌝ }
-    requires { ⌜ Measured (now stream) w n guarded × (1 ≤ k) × (k < 3) × (length (now work) ≡ 256 * unit w n) × (length (now ring) ≡ 6 * (w / 4)) × (length (now plane) ≡ planeRows guarded n * (w / 2)) ⌝ }
+    requires { ⌜ Measured (now stream) w n guarded × (1 ≤ k) × (k < 3) × (length (now work) ≡ 256 * unit w n) × (length (now full) ≡ planeRows guarded n * w) × (length (now plane) ≡ planeRows guarded n * (w / 2)) ⌝ }
     ensures { λ r. ⌜ (r ≡ planeStopped (now (stream .entry)) (colourOf k)) × (r < 2 ^ 18) ⌝ }
     ensures { λ r. ⌜ now (plane .exit) ≡ planeOf (now (stream .entry)) (colourOf k) ⌝ }
 {
+    let ring = 6 * (w / 4);
     let stopped = decode_levels(stream, k, w, n, work);
-    colour_plane(work, ring, plane, w, n, guarded, true);
+    colour_plane(work, &mut full[0..ring], plane, w, n, guarded, true);
     stopped
+}
+
+// Green's averages; rows in passing stand at the start of the plane.
+fn make_averages(work: &mut [i32], full: &mut [i32], w: usize, n: usize, guarded: bool)
+    requires { ⌜ Sized guarded w n × (length (now work) ≡ 256 * unit w n) × (length (now full) ≡ planeRows guarded n * w) ⌝ }
+    ensures { λ _. ⌜ Stands (now (work .exit)) (84 * unit w n) (planeRows guarded n) (w / 2) (outcome guarded n w green (coefsIn w n (now (work .entry)))) ⌝ }
+{
+    let ring = 6 * (w / 4);
+    averages(work, &mut full[0..ring], w, n, guarded);
+}
+
+// The plane of green: its averages, then group 4's details. How many records stopped.
+fn decode_green(stream: &[u8], w: usize, n: usize, guarded: bool, work: &mut [i32], full: &mut [i32]) -> u64
+    requires { ⌜ Good (now stream) ⌝ }
+    requires { ⌜ Measured (now stream) w n guarded × (length (now work) ≡ 256 * unit w n) × (length (now full) ≡ planeRows guarded n * w) ⌝ }
+    ensures { λ r. ⌜ (r ≡ planeStopped (now (stream .entry)) green + groupStopped (now (stream .entry)) final green) × (r < 2 ^ 19) ⌝ }
+    ensures { λ r. ⌜ now (full .exit) ≡ planeOf (now (stream .entry)) green ⌝ }
+{
+    let size = 64 * ((n + 1) * (w / 16));
+    let a = decode_levels(stream, 0, w, n, work);
+    make_averages(work, full, w, n, guarded);
+    let b = decode_band(stream, 4, 0, 8, w / 2, n + 1, work, 0, size);
+    final_green(work, full, w, n, guarded);
+    a + b
+}
+
+// The three planes, in slices of their own size, and zeros in work. How many records stopped.
+fn decode_planes(stream: &[u8], w: usize, n: usize, guarded: bool, full: &mut [i32], red: &mut [i32], blue: &mut [i32], work: &mut [i32]) -> u64
+    requires { ⌜ Good (now stream) ⌝ }
+    requires { ⌜ Measured (now stream) w n guarded × (length (now work) ≡ 256 * unit w n) × (length (now full) ≡ planeRows guarded n * w) × (length (now red) ≡ planeRows guarded n * (w / 2)) × (length (now blue) ≡ planeRows guarded n * (w / 2)) ⌝ }
+    ensures { λ r. ⌜ r ≡ stoppedOf (now (stream .entry)) ⌝ }
+    ensures { λ r. ⌜ (now (full .exit) ≡ planeOf (now (stream .entry)) (colourOf 0)) × (now (red .exit) ≡ planeOf (now (stream .entry)) (colourOf 1)) × (now (blue .exit) ≡ planeOf (now (stream .entry)) (colourOf 2)) × (now (work .exit) ≡ zeros (length (now (work .entry)))) ⌝ }
+{
+    let a = decode_colour(stream, 1, w, n, guarded, work, full, red);
+    let b = decode_colour(stream, 2, w, n, guarded, work, full, blue);
+    let c = decode_green(stream, w, n, guarded, work, full);
+    clear(work);
+    c + a + b
 }
