@@ -190,7 +190,7 @@ fn check_packets(stream: &[u8]) -> u32
 }
 
 // The rows of the planes.
-fn plane_rows(height: usize) -> usize
+pub fn plane_rows(height: usize) -> usize
     requires { ⌜ height < 2 ^ 17 ⌝ }
     ensures { λ r. ⌜ (r ≡ planeRowsOf height) × (r < 2 ^ 17) ⌝ }
 {

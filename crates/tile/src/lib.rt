@@ -4,6 +4,7 @@ use levels::averages;
 use levels::colour_plane;
 use packets::check;
 use packets::packet;
+use packets::plane_rows;
 use records::clear;
 use records::decode_packet;
 ghost use mathlib.Core.Path.{_≡_};
@@ -15,7 +16,7 @@ ghost use Rattle.format.specs.Strip.{width, codedHeight};
 ghost use Rattle.format.specs.Packets.{packetOf, kind};
 ghost use Rattle.format.specs.Coefficients.{zeros, packetValues, packetStopped, groupStopped, planeStopped, stoppedOf};
 ghost use Rattle.format.specs.Tile.{answerOf, planeAfter, workAfter};
-ghost use Rattle.format.proofs.Accepted.{Good};
+ghost use Rattle.format.proofs.Accepted.{Good, Accepted};
 ghost use Rattle.packets.specs.Answers.{colourOf};
 ghost use Rattle.format.specs.Synthesis.{outcome};
 ghost use Rattle.passes.specs.Held.{unit, Sized};
@@ -110,4 +111,66 @@ fn decode_planes(stream: &[u8], w: usize, n: usize, guarded: bool, full: &mut [i
     let c = decode_green(stream, w, n, guarded, work, full);
     clear(work);
     c + a + b
+}
+
+// The planes of an accepted stream of coded size w by h and r rows, at the start of the lent slices. How many records stopped.
+fn decode_accepted(stream: &[u8], w: usize, h: usize, r: usize, full: &mut [i32], red: &mut [i32], blue: &mut [i32], work: &mut [i32]) -> u64
+    requires { ⌜ Accepted (now stream) (length (now full)) (length (now red)) (length (now blue)) (length (now work)) ⌝ }
+    requires { ⌜ (w ≡ width (now stream)) × (h ≡ codedHeight (now stream)) × (r ≡ planeRowsOf h) ⌝ }
+    ensures { λ k. ⌜ k ≡ stoppedOf (now (stream .entry)) ⌝ }
+    ensures { λ k. ⌜ (now (full .exit) ≡ onto (planeOf (now (stream .entry)) (colourOf 0)) (now (full .entry))) × (now (red .exit) ≡ onto (planeOf (now (stream .entry)) (colourOf 1)) (now (red .entry))) × (now (blue .exit) ≡ onto (planeOf (now (stream .entry)) (colourOf 2)) (now (blue .entry))) × (now (work .exit) ≡ onto (zeros (workLength (width (now (stream .entry))) (codedHeight (now (stream .entry))))) (now (work .entry))) ⌝ }
+{
+    let n = (h + 15) / 16;
+    let rest = h % 16;
+    let guarded = rest != 0;
+    let a = r * w;
+    let b = r * (w / 2);
+    let c = 16 * (n + 1) * w;
+    decode_planes(
+        stream,
+        w,
+        n,
+        guarded,
+        &mut full[0..a],
+        &mut red[0..b],
+        &mut blue[0..b],
+        &mut work[0..c],
+    )
+}
+
+// Decodes one tile's stream into the lent planes, with the work slice lent too: a refusal, with nothing changed, or all three planes.
+pub fn decode_stream(stream: &[u8], green: &mut [i32], red: &mut [i32], blue: &mut [i32], work: &mut [i32]) -> Decoded
+    ensures { λ r. ⌜ r ≡ decodedOf (answerOf (now (stream .entry)) (refusalOf (now (stream .entry)) (now (green .entry)) (now (red .entry)) (now (blue .entry)) (now (work .entry)))) ⌝ }
+    ensures { λ r. ⌜ now (green .exit) ≡ planeAfter (now (stream .entry)) (refusalOf (now (stream .entry)) (now (green .entry)) (now (red .entry)) (now (blue .entry)) (now (work .entry))) (colourOf 0) (now (green .entry)) ⌝ }
+    ensures { λ r. ⌜ now (red .exit) ≡ planeAfter (now (stream .entry)) (refusalOf (now (stream .entry)) (now (green .entry)) (now (red .entry)) (now (blue .entry)) (now (work .entry))) (colourOf 1) (now (red .entry)) ⌝ }
+    ensures { λ r. ⌜ now (blue .exit) ≡ planeAfter (now (stream .entry)) (refusalOf (now (stream .entry)) (now (green .entry)) (now (red .entry)) (now (blue .entry)) (now (work .entry))) (colourOf 2) (now (blue .entry)) ⌝ }
+    ensures { λ r. ⌜ now (work .exit) ≡ workAfter (now (stream .entry)) (refusalOf (now (stream .entry)) (now (green .entry)) (now (red .entry)) (now (blue .entry)) (now (work .entry))) (now (work .entry)) ⌝ }
+{
+    let c = check(
+        stream,
+        green.len(),
+        red.len(),
+        blue.len(),
+        work.len(),
+    );
+    if c.refusal != 0 {
+        return Decoded {
+            refusal: c.refusal as u64,
+            width: 0,
+            height: 0,
+            rows: 0,
+            stopped: 0,
+        };
+    }
+    let w = c.width;
+    let h = c.height;
+    let r = plane_rows(h);
+    let stopped = decode_accepted(stream, w, h, r, green, red, blue, work);
+    Decoded {
+        refusal: 0,
+        width: w as u64,
+        height: h as u64,
+        rows: r as u64,
+        stopped,
+    }
 }
