@@ -34,18 +34,6 @@ pub fn lift_low(dst: &mut [i32], low: &[i32], prev: &[i32], cur: &[i32])
     }
 }
 
-// The high results of one row.
-pub fn lift_high(dst: &mut [i32], high: &[i32], a: &[i32], b: &[i32])
-    requires { ⌜ (length (now dst) ≤ length (now high)) × (length (now dst) ≤ length (now a)) × (length (now dst) ≤ length (now b)) ⌝ }
-    ensures { λ _. ⌜ now (dst .exit) ≡ highRow (length (now (dst .entry))) (now (high .entry)) (now (a .entry)) (now (b .entry)) ⌝ }
-{
-    let mut x = 0;
-    while x < dst.len() {
-        dst[x] = high_step(high[x], a[x], b[x]);
-        x += 1;
-    }
-}
-
 // One row lifted along itself: w lows and w highs give 2 w results.
 pub fn lift_row(out: &mut [i32], low: &[i32], high: &[i32])
     requires { ⌜ (length (now out) ≡ 2 * length (now low)) × (length (now high) ≡ length (now low)) ⌝ }

@@ -4,3 +4,4 @@ pub mod PlaceLaws
 pub mod Planes
 pub mod HeldLaws
 pub mod PutRows
+pub mod Accepted

@@ -5,6 +5,7 @@ use mathlib.Core.List.{List}
 use Prim.Native.Nat.{ℕ, _+_, _*_, _/_, _%_, _^_, _≤_, _<_}
 use lib.IntN.{ℤ, pos}
 use lib.ListN.{getD}
+use Rattle.lists.specs.Lists.{tab}
 use Rattle.format.specs.Lifting.{Plane}
 use Rattle.format.proofs.Exact.{Tall}
 use Rattle.format.specs.Sizes.{Level, l1, l2, l3, Group, base, detail, final, multiplier, columns}
@@ -32,12 +33,22 @@ packetAt w n (detail l2) = 4 * unit w n
 packetAt w n (detail l3) = 16 * unit w n
 packetAt w n final = 0
 
+-- where a level's packet ends
+abbrev pub packetEnd : ℕ → ℕ → Level → ℕ
+packetEnd w n l1 = 4 * unit w n
+packetEnd w n l2 = 16 * unit w n
+packetEnd w n l3 = 64 * unit w n
+
 abbrev pub rowAt : ℕ → ℕ → Group → ℕ → ℕ → ℕ
 rowAt w n g c r = place (packetAt w n g) (multiplier g) (components g) (columns w g) c r
 
 -- the coefficients of a group's component that the work slice holds
 unfoldable pub held : ℕ → ℕ → List ℤ → Group → ℕ → Plane
 held w n work g c r x = getD work (rowAt w n g c r + x) (pos 0)
+
+-- row y of a plane of c columns, as a list
+abbrev pub line : ℕ → Plane → ℕ → List ℤ
+line c p y = tab c (p y)
 
 -- rows of c numbers that stand one after the other from `at` on
 abbrev pub readAt : List ℤ → ℕ → ℕ → Plane
