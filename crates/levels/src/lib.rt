@@ -23,7 +23,7 @@ ghost use Rattle.levels.specs.Bands.{solidBand, tripleBand, strideLevel}
 ghost use Rattle.levels.specs.Levels.{coefsIn, Follows, summed, edged, Between, Edged, passed, Stands, Ready};
 
 // Component and shift of a run of rows: row y of a band is row y + shift of the component.
-pub struct Run(pub usize, pub usize);
+struct Run(usize, usize);
 
 // Rows one after the other.
 fn solid(at: usize) -> Band

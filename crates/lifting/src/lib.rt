@@ -10,13 +10,15 @@ ghost use Rattle.lists.specs.Lists.{part, putAt};
 ghost use Rattle.lists.proofs.Put.{Clear};
 ghost use Rattle.lifting.specs.Lift.{lowStep, highStep, lowRow, highRow, endRow, liftRow, edgeRow, sumRow};
 
-pub fn low_step(l: i32, p: i32, c: i32) -> i32
+// l less a quarter of (p + c + 2).
+fn low_step(l: i32, p: i32, c: i32) -> i32
     ensures { λ r. ⌜ r ≡ lowStep l p c ⌝ }
 {
     wrapping_sub(l, wrapping_add(wrapping_add(p, c), 2) >> 2)
 }
 
-pub fn high_step(h: i32, a: i32, b: i32) -> i32
+// h plus half of (a + b).
+fn high_step(h: i32, a: i32, b: i32) -> i32
     ensures { λ r. ⌜ r ≡ highStep h a b ⌝ }
 {
     wrapping_add(h, wrapping_add(a, b) >> 1)
