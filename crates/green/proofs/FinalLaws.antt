@@ -2,12 +2,12 @@
 use mathlib.Core.Path.{_≡_, refl, sym, ap, _∙_}
 use mathlib.Core.Bool.{Bool, true, false, cond}
 use mathlib.Core.List.{List}
-use Prim.Native.Nat.{ℕ, zero, suc, _+_, _-_, _*_, _/_, _%_, _≤_, _<_, min}
+use Prim.Native.Nat.{ℕ, suc, _+_, _-_, _*_, _/_, _%_, _≤_, _<_, min}
 use native.Mathlib.Nat.{mul-le-mul-right}
 use native.Mathlib.Omega.{arith}
 use lib.Dec.{eqb, ltb}
-use borrow.Author.Tests.{eqb-true, ltb-true, ltb-false}
-use lib.IntN.{ℤ, pos, _+ℤ_, _-ℤ_}
+use borrow.Author.Tests.{eqb-true}
+use lib.IntN.{ℤ, _+ℤ_, _-ℤ_}
 use lib.ListN.{length}
 use lib.Signed.{shrZ}
 use Rattle.wrap32.specs.Cut.{wrap, addW}
@@ -15,7 +15,7 @@ use Rattle.wrap32.proofs.Laws.{addW-assoc, addW-comm}
 use Rattle.lists.specs.Lists.{tab, part, rows}
 use Rattle.lists.proofs.Tab.{tab-same}
 use Rattle.format.specs.Lifting.{Plane, weave}
-use Rattle.format.specs.Sizes.{final, planeRows, columns}
+use Rattle.format.specs.Sizes.{final, planeRows}
 use Rattle.format.specs.Table.{chosen}
 use Rattle.format.specs.Synthesis.{quarter, guess, around, oddGreen, evenGreen, bothGreens, flat}
 use Rattle.format.proofs.LiftingLaws.{branch}
@@ -23,11 +23,11 @@ use Rattle.format.proofs.TableLaws.{chosen-in}
 use Rattle.format.proofs.Exact.{Tall}
 use Rattle.lifting.specs.Lift.{at}
 use Rattle.passes.specs.declared.Band.{Band}
-use Rattle.passes.specs.Held.{place, unit, rowAt, held, readAt, Sized}
-use Rattle.passes.specs.Level.{pick, component, packetRow, bandAt, bandRow, Inside, Whole}
+use Rattle.passes.specs.Held.{place, unit, rowAt, held, readAt, Sized, line}
+use Rattle.passes.specs.Level.{bandAt, bandRow, Whole}
 use Rattle.passes.proofs.PlaceLaws.{place-is, band-is}
 use Rattle.passes.proofs.HeldLaws.{held-line, read-line}
-use Rattle.passes.proofs.Planes.{line, at-line, rows-same}
+use Rattle.passes.proofs.Planes.{at-line, rows-same}
 use Rattle.green.specs.Green.{quarterOf, oddOf, evenOf, firstOf, right, oddRow, evenAt, fullAt, fullRow, Inner, oddG, fullG, top, detailBand}
 
 -- ---- four numbers, added in two orders
@@ -86,9 +86,8 @@ module _ (c : ℕ) (l d : Plane) where
 
 -- ---- from the rows that the work slice holds
 module _ (w : List ℤ) (b : Band) (a c r : ℕ) (l d : Plane)
-  (p : (y : ℕ) → y < r → part w (a + y * c) c ≡ line c l y)
-  (q : (y : ℕ) → y < r → bandRow w c b y ≡ line c d y) where
-
+    (p : (y : ℕ) → y < r → part w (a + y * c) c ≡ line c l y)
+    (q : (y : ℕ) → y < r → bandRow w c b y ≡ line c d y) where
   odd-is : (y : ℕ) → y < r → oddG w b a c y ≡ line c (oddGreen c l d) y
   unfolding oddG
   odd-is y t = (λ i. oddRow c (p y t i) (q (y - 1) (omega arith) i) (q y t i)) ∙ odd-line c l d y
@@ -97,8 +96,8 @@ module _ (w : List ℤ) (b : Band) (a c r : ℕ) (l d : Plane)
   unfolding fullG bothGreens
   greens-flat =
       rows-same r _ _ (λ y t.
-        (λ i. fullRow c (odd-is y t i) (odd-is (min (y + 1) (r - 1)) (omega arith) i) (q y t i))
-        ∙ full-line c l d r (oddGreen c l d) y)
+      (λ i. fullRow c (odd-is y t i) (odd-is (min (y + 1) (r - 1)) (omega arith) i) (q y t i))
+      ∙ full-line c l d r (oddGreen c l d) y)
 
 -- ---- the rows of details that are used
 one-of : (a : ℕ) (t : Bool) → cond t a (cond t a a) ≡ a

@@ -1,26 +1,25 @@
 -- E has been applied to all rows of a level that go in as E, and to no other. Assumes nothing.
-use mathlib.Core.Path.{_≡_, refl, sym, ap, _∙_}
+use mathlib.Core.Path.{_≡_, refl, ap, _∙_}
 use mathlib.Core.Bool.{Bool, true, false, cond}
 use mathlib.Core.List.{List}
-use mathlib.Core.Logic.{_⊎_, inl, inr, _≢_}
-use Prim.Native.Nat.{ℕ, zero, suc, _+_, _-_, _*_, _/_, _%_, _≤_, _<_}
+use mathlib.Core.Logic.{inl, inr}
+use Prim.Native.Nat.{ℕ, _+_, _-_, _*_, _/_, _%_, _≤_, _<_}
 use native.Mathlib.Omega.{arith}
 use lib.Dec.{eqb, ltb}
-use borrow.Author.Tests.{eqb-true, eqb-false, ltb-true, ltb-false}
+use borrow.Author.Tests.{ltb-true, ltb-false}
 use lib.IntN.{ℤ}
 use lib.ListN.{length}
 use Rattle.wrap32.specs.Cut.{edgeDetail}
 use Rattle.lists.specs.Lists.{tab, part}
 use Rattle.lists.proofs.Tab.{tab-same}
-use Rattle.lists.proofs.Part.{Apart}
 use Rattle.format.specs.Sizes.{Level, l1, l2, l3, detail, multiplier, columns}
 use Rattle.format.specs.Table.{Source, S, E, hl, lh, hh, first, middle, last, plain, source, fromComponent, fromRow}
 use Rattle.format.specs.Table as table
 use Rattle.format.specs.Synthesis.{value}
 use Rattle.lifting.specs.Lift.{edgeRow}
-use Rattle.passes.specs.Held.{place, unit, packetAt, rowAt, held, Sized}
-use Rattle.passes.proofs.HeldLaws.{packetEnd, held-line, row-in, row-apart}
-use Rattle.passes.proofs.Planes.{line, at-line}
+use Rattle.passes.specs.Held.{unit, packetAt, rowAt, held, Sized, line, packetEnd}
+use Rattle.passes.proofs.HeldLaws.{held-line, row-in, row-apart}
+use Rattle.passes.proofs.Planes.{at-line}
 use Rattle.levels.specs.Levels.{edged, Between, Edged}
 use Rattle.levels.proofs.EdgeLaws.{edged-none, edged-length, edged-kept, edged-done}
 

@@ -1,31 +1,31 @@
 -- From what the work slice holds to document 01's planes: sizes, and one level at a time. Assumes nothing.
 use mathlib.Core.Path.{_≡_, refl, sym, ap, _∙_}
-use mathlib.Core.Bool.{Bool, true, false, cond}
+use mathlib.Core.Bool.{Bool, true, false}
 use mathlib.Core.List.{List}
 use mathlib.Core.Logic.{inl, inr}
-use Prim.Native.Nat.{ℕ, zero, suc, _+_, _-_, _*_, _/_, _%_, _≤_, _<_}
+use Prim.Native.Nat.{ℕ, suc, _+_, _*_, _/_, _%_, _≤_, _<_}
 use native.Mathlib.Nat.{mul-le-mul-right}
 use native.Mathlib.Omega.{arith}
 use lib.IntN.{ℤ, pos}
-use lib.ListN.{length, getD}
+use lib.ListN.{getD}
 use Rattle.lists.specs.Lists.{part}
 use Rattle.lists.proofs.Tab.{getD-part}
 use Rattle.format.specs.Coefficients.{Coefs}
-use Rattle.format.specs.Lifting.{Plane, Lead, lowLeads, highLeads, Shape, SameOn}
-use Rattle.format.specs.Sizes.{Colour, Level, l1, l2, l3, detail, multiplier, columns, planeRows}
-use Rattle.format.specs.Table.{start, height, lead, highs, Source, S, E, hl, lh, hh, source, bandRows, mode, fromComponent, fromRow}
+use Rattle.format.specs.Lifting.{Plane, lowLeads, highLeads, Shape, SameOn}
+use Rattle.format.specs.Sizes.{Colour, Level, l1, l2, l3, detail, multiplier, columns}
+use Rattle.format.specs.Table.{height, lead, highs, Source, S, E, hl, lh, hh, source, bandRows, mode, fromComponent, fromRow}
 use Rattle.format.specs.Table as table
-use Rattle.format.specs.Synthesis.{level, value, bands, step, flat}
+use Rattle.format.specs.Synthesis.{level, value, step, flat}
 use Rattle.format.proofs.Exact.{Tall}
 use Rattle.format.proofs.LevelLaws.{level-same}
-use Rattle.format.proofs.PlaceLaws.{read-flat, flat-same}
+use Rattle.format.proofs.PlaceLaws.{read-flat}
 use Rattle.format.proofs.TableLaws.{source-in}
 use Rattle.passes.specs.declared.Level as code
-use Rattle.passes.specs.Held.{unit, packetAt, rowAt, held, readAt, Sized}
-use Rattle.passes.specs.Level.{bandAt, bandRow, Lows, Highs, leading}
+use Rattle.passes.specs.Held.{unit, packetAt, readAt, Sized, line, packetEnd}
+use Rattle.passes.specs.Level.{bandRow, Lows, Highs, leading}
 use Rattle.passes.specs.Level as rowwise
-use Rattle.passes.proofs.HeldLaws.{packetEnd, row-in}
-use Rattle.passes.proofs.Planes.{line, level-flat, leading-flat}
+use Rattle.passes.proofs.HeldLaws.{row-in}
+use Rattle.passes.proofs.Planes.{level-flat, leading-flat}
 use Rattle.levels.specs.Levels.{llAt, outAt, sourceAt, Follows, passed}
 use Rattle.levels.proofs.EdgeRows.{packet-end}
 

@@ -2,7 +2,7 @@
 use mathlib.Core.Path.{_≡_, refl, sym, ap, _∙_}
 use mathlib.Core.Bool.{Bool, true, false, cond}
 use mathlib.Core.List.{List}
-use Prim.Native.Nat.{ℕ, zero, suc, _+_, _-_, _*_, _/_, _%_, _≤_, _<_}
+use Prim.Native.Nat.{ℕ, suc, _+_, _-_, _*_, _/_, _%_, _≤_, _<_}
 use native.Mathlib.Nat.{mul-le-mul-right}
 use native.Mathlib.Omega.{arith}
 use lib.Dec.{eqb}
@@ -14,24 +14,23 @@ use Rattle.lists.specs.Lists.{tab, part, putAt, rows}
 use Rattle.lists.proofs.Tab.{length-tab, tab-same, getD-part, length-put}
 use Rattle.lists.proofs.Rows.{length-rows}
 use Rattle.lists.proofs.Part.{part-put-in, part-put-below, part-put-above}
-use Rattle.format.specs.Lifting.{Plane, SameOn}
+use Rattle.format.specs.Lifting.{Plane}
 use Rattle.format.specs.Sizes.{Colour, green, Level, l1, l2, l3, base, detail, multiplier, columns, planeRows}
-use Rattle.format.specs.Table.{start, height, highs, Source, S, E, hl, lh, hh, source, bandRows, fromComponent, fromRow}
+use Rattle.format.specs.Table.{start, height, highs, S, hl, lh, hh, source, bandRows, fromComponent, fromRow}
 use Rattle.format.specs.Table as table
-use Rattle.format.specs.Synthesis.{sums, value, bands, step, ll1, ll2, ll3, flat}
+use Rattle.format.specs.Synthesis.{value, bands, step, ll1, ll2, flat}
 use Rattle.format.proofs.Exact.{Tall}
-use Rattle.format.proofs.PlaceLaws.{sums-same, flat-same}
+use Rattle.format.proofs.PlaceLaws.{sums-same}
 use Rattle.lifting.specs.Lift.{at, sumRow}
 use Rattle.passes.specs.declared.Level as code
-use Rattle.passes.specs.Held.{place, unit, packetAt, rowAt, held, readAt, Sized}
+use Rattle.passes.specs.Held.{unit, packetAt, rowAt, held, readAt, Sized, line, packetEnd}
 use Rattle.passes.specs.Level.{Lows, Highs, Sound}
-use Rattle.passes.proofs.HeldLaws.{packetEnd, held-line, read-line, row-in}
+use Rattle.passes.proofs.HeldLaws.{held-line, read-line, row-in}
 use Rattle.passes.proofs.PlaceLaws.{place-is}
-use Rattle.passes.proofs.Planes.{line}
 use Rattle.passes.proofs.PutRows.{done-row}
-use Rattle.levels.specs.Levels.{coefsIn, llAt, outAt, sourceAt, Follows, summed, Between, Edged, passed, Stands, Ready}
+use Rattle.levels.specs.Levels.{coefsIn, outAt, sourceAt, Follows, summed, Between, Edged, passed, Stands}
 use Rattle.levels.proofs.SumLaws.{sumOfRow, length-sum}
-use Rattle.levels.proofs.Join.{leads, rowsAfter, source-room, columns-8, columns-4, ll-room, follows-lows, follows-highs, passed-flat, step-same, stands-read}
+use Rattle.levels.proofs.Join.{leads, rowsAfter, source-room, columns-8, columns-4, ll-room, follows-lows, follows-highs, passed-flat}
 
 -- ---- planes and parts of a list
 pub length-flat : (h c : ℕ) (p : Plane) → length (flat h c p) ≡ h * c

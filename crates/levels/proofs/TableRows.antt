@@ -1,21 +1,19 @@
 -- The bands of the code are document 01's table, row by row. Assumes nothing.
 use mathlib.Core.Path.{_≡_, refl, sym, ap, _∙_}
 use mathlib.Core.Bool.{Bool, true, false, cond}
-use Prim.Native.Nat.{ℕ, zero, suc, _+_, _-_, _*_, _/_, _%_, _≤_, _<_}
+use Prim.Native.Nat.{ℕ, _+_, _-_, _*_, _/_, _%_, _≤_, _<_}
 use native.Mathlib.Omega.{arith}
 use lib.Dec.{eqb, ltb}
 use borrow.Author.Tests.{eqb-true, eqb-false, ltb-true, ltb-false}
-use Rattle.format.specs.Sizes.{Level, l1, l2, l3, Group, detail, multiplier, columns, components}
-use Rattle.format.specs.Table.{height, highs, Source, S, E, hl, lh, hh, first, middle, last, plain, source, bandRows, fromComponent, fromRow}
+use Rattle.format.specs.Sizes.{Level, l1, l2, l3, detail, multiplier, columns, components}
+use Rattle.format.specs.Table.{height, Source, S, E, hl, lh, hh, first, middle, last, plain, source, fromComponent, fromRow}
 use Rattle.format.specs.Table as table
-use Rattle.format.proofs.Exact.{Tall}
-use Rattle.passes.specs.declared.Band.{Band}
 use Rattle.passes.specs.Held.{place, unit, packetAt, rowAt, Sized}
-use Rattle.passes.specs.Level.{pick, component, packetRow, bandAt, Whole, Sound}
+use Rattle.passes.specs.Level.{pick, bandAt, Whole, Sound}
 use Rattle.passes.specs.declared.Level as code
 use Rattle.passes.proofs.PlaceLaws.{place-is, band-is}
 use Rattle.levels.specs.Bands.{solidBand, tripleBand, strideLevel}
-use Rattle.levels.specs.Levels.{llAt, sourceAt, Follows}
+use Rattle.levels.specs.Levels.{Follows}
 
 -- a source is row r of component c
 abbrev Is : Source → ℕ → ℕ → Type 0

@@ -1,34 +1,32 @@
 -- Level 3, and the plane that the three levels give. Assumes nothing.
-use mathlib.Core.Path.{_≡_, refl, sym, ap, _∙_}
-use mathlib.Core.Bool.{Bool, true, false, cond}
+use mathlib.Core.Path.{_≡_, sym, _∙_}
+use mathlib.Core.Bool.{Bool}
 use mathlib.Core.List.{List}
-use Prim.Native.Nat.{ℕ, zero, suc, _+_, _-_, _*_, _/_, _%_, _≤_, _<_}
+use Prim.Native.Nat.{ℕ, _+_, _*_, _/_, _<_}
 use native.Mathlib.Omega.{arith}
 use lib.IntN.{ℤ}
 use lib.ListN.{length}
-use Rattle.lists.specs.Lists.{tab, part, putAt}
+use Rattle.lists.specs.Lists.{part, putAt}
 use Rattle.lists.proofs.Tab.{tab-same}
-use Rattle.format.specs.Lifting.{Plane, SameOn}
-use Rattle.format.specs.Sizes.{Colour, Level, l1, l2, l3, detail, multiplier, columns, planeRows}
+use Rattle.format.specs.Lifting.{SameOn}
+use Rattle.format.specs.Sizes.{Colour, Level, l2, l3, detail, planeRows}
 use Rattle.format.specs.Table.{height, highs, Source, S, E, source, bandRows, mode, fromComponent, fromRow}
 use Rattle.format.specs.Table as table
 use Rattle.format.specs.Synthesis.{value, bands, step, ll2, ll3, outcome, flat}
 use Rattle.format.proofs.TableLaws.{source-in}
 use Rattle.passes.specs.declared.Level as code
-use Rattle.passes.specs.Held.{unit, held, readAt, Sized}
+use Rattle.passes.specs.Held.{unit, held, readAt, Sized, line}
 use Rattle.passes.specs.Level as rowwise
 use Rattle.passes.proofs.HeldLaws.{read-line}
-use Rattle.passes.proofs.Planes.{line}
 use Rattle.levels.specs.Levels.{coefsIn, sourceAt, Follows, Between, Edged, Stands, Ready}
 use Rattle.levels.proofs.Join.{rowsAfter, ll-room, passed-flat, step-same, stands-read}
 use Rattle.levels.proofs.Lows.{held-same, after-2, after-3, highs-3, stands-put, out-room}
 
 -- the work slice as it came, and after level 1, level 2 and E on level 3's rows
 module _ (g : Bool) (w n : ℕ) (s : Sized g w n) (odd : Bool) (i : Colour) (m : mode l3 i ≡ odd) (a b c d : List ℤ) (size : length c ≡ 256 * unit w n)
-  (one : Stands b (64 * unit w n) (height g n l2) (w / 8) (ll2 g n w i (coefsIn w n a))) (kept : Between (unit w n) (64 * unit w n) b a)
-  (two : Stands c (68 * unit w n) (height g n l3) (w / 4) (step g n w l2 i (coefsIn w n b) (readAt b (64 * unit w n) (w / 8)))) (kept′ : Between (16 * unit w n) (64 * unit w n) c b)
-  (e : Edged g w n l3 odd c d) where
-
+    (one : Stands b (64 * unit w n) (height g n l2) (w / 8) (ll2 g n w i (coefsIn w n a))) (kept : Between (unit w n) (64 * unit w n) b a)
+    (two : Stands c (68 * unit w n) (height g n l3) (w / 4) (step g n w l2 i (coefsIn w n b) (readAt b (64 * unit w n) (w / 8)))) (kept′ : Between (16 * unit w n) (64 * unit w n) c b)
+    (e : Edged g w n l3 odd c d) where
   ll-same : SameOn (height g n l3) (w / 4) (readAt c (68 * unit w n) (w / 4)) (ll3 g n w i (coefsIn w n a))
   unfolding ll3
   ll-same y x p q =
@@ -54,9 +52,9 @@ module _ (g : Bool) (w n : ℕ) (s : Sized g w n) (odd : Bool) (i : Colour) (m :
       let o = source-in g n (s .tall) l3 k y p in
       e .bands k y p
       ∙ tab-same (w / 4) _ _ (λ x q.
-        value-same (source g l3 (height g n l3) k y) x
-        (held-same w n (s .whole) c b l3 (16 * unit w n) (64 * unit w n) kept′ (omega arith) (omega arith) _ _ x (o .1) (o .0) q
-        ∙ held-same w n (s .whole) b a l3 (unit w n) (64 * unit w n) kept (omega arith) (omega arith) _ _ x (o .1) (o .0) q))
+      value-same (source g l3 (height g n l3) k y) x
+      (held-same w n (s .whole) c b l3 (16 * unit w n) (64 * unit w n) kept′ (omega arith) (omega arith) _ _ x (o .1) (o .0) q
+      ∙ held-same w n (s .whole) b a l3 (unit w n) (64 * unit w n) kept (omega arith) (omega arith) _ _ x (o .1) (o .0) q))
 
   pub ready : length a ≡ 256 * unit w n → Ready g w n i a d
   ready z = record { lls = ll-row; bands = band-row; size = e .size ∙ size ∙ sym z }

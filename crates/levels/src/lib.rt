@@ -13,9 +13,9 @@ ghost use mathlib.Core.Bool.{true, false};
 ghost use Prim.Native.Nat.{ℕ, _+_, _*_, _/_, _^_, _-_, _≤_, _<_};
 ghost use lib.ListN.{length};
 ghost use Rattle.lists.specs.Lists.{part, putAt};
-ghost use Rattle.format.specs.Sizes.{Colour, green, l1, l2, l3, columns, detail, planeRows};
+ghost use Rattle.format.specs.Sizes.{Colour, green, l1, l2, l3, planeRows};
 ghost use Rattle.format.specs.Table.{start, height, mode};
-ghost use Rattle.format.specs.Synthesis.{ll2, ll3, outcome, step, flat};
+ghost use Rattle.format.specs.Synthesis.{ll2, outcome, step, flat};
 ghost use Rattle.lifting.specs.Lift.{edgeRow, sumRow};
 ghost use Rattle.passes.specs.Held.{place, unit, readAt, Sized};
 ghost use Rattle.passes.specs.Level.{Lows, Highs, Sound};
@@ -23,7 +23,7 @@ ghost use Rattle.levels.specs.Bands.{solidBand, tripleBand, strideLevel}
 ghost use Rattle.levels.specs.Levels.{coefsIn, Follows, summed, edged, Between, Edged, passed, Stands, Ready};
 
 // Component and shift of a run of rows: row y of a band is row y + shift of the component.
-pub struct Run(pub usize, pub usize);
+struct Run(usize, usize);
 
 // Rows one after the other.
 fn solid(at: usize) -> Band
@@ -63,8 +63,8 @@ fn triple(at: usize, m: usize, e: usize, k: usize, a: Run, b: Run, z: Run) -> Ba
     }
 }
 
-// Plain 1.
-fn plain_1(w: usize, n: usize) -> Level
+// The bands of plain 1.
+fn synth_level(w: usize, n: usize) -> Level
     requires { ⌜ Sized false w n ⌝ }
     ensures { λ r. ⌜ Follows false w n l1 r ⌝ }
 {
@@ -83,8 +83,8 @@ fn plain_1(w: usize, n: usize) -> Level
     }
 }
 
-// Plain 2 and 3, with e rows at each end.
-fn stride(h: usize, c: usize, ll: usize, at: usize, m: usize, e: usize) -> Level
+// The bands of plain 2 and 3, with e rows at each end.
+fn synth_level_stride(h: usize, c: usize, ll: usize, at: usize, m: usize, e: usize) -> Level
     requires { ⌜ (e ≤ h) × (e < 2 ^ 32) ⌝ }
     ensures { λ r. ⌜ r ≡ strideLevel h c ll at m e ⌝ }
 {
@@ -103,8 +103,8 @@ fn stride(h: usize, c: usize, ll: usize, at: usize, m: usize, e: usize) -> Level
     }
 }
 
-// Guarded 1.
-fn guarded_1(w: usize, n: usize) -> Level
+// The bands of guarded 1.
+fn synth_guard1(w: usize, n: usize) -> Level
     requires { ⌜ Sized true w n ⌝ }
     ensures { λ r. ⌜ Follows true w n l1 r ⌝ }
 {
@@ -124,8 +124,8 @@ fn guarded_1(w: usize, n: usize) -> Level
     }
 }
 
-// Guarded 2.
-fn guarded_2(w: usize, n: usize) -> Level
+// The bands of guarded 2.
+fn synth_guard2(w: usize, n: usize) -> Level
     requires { ⌜ Sized true w n ⌝ }
     ensures { λ r. ⌜ Follows true w n l2 r ⌝ }
 {
@@ -144,8 +144,8 @@ fn guarded_2(w: usize, n: usize) -> Level
     }
 }
 
-// Guarded 3.
-fn guarded_3(w: usize, n: usize) -> Level
+// The bands of guarded 3.
+fn synth_guard3(w: usize, n: usize) -> Level
     requires { ⌜ Sized true w n ⌝ }
     ensures { λ r. ⌜ Follows true w n l3 r ⌝ }
 {
@@ -165,41 +165,41 @@ fn guarded_3(w: usize, n: usize) -> Level
     }
 }
 
-// Level 1.
+// The bands of level 1.
 fn level_1(w: usize, n: usize, guarded: bool) -> Level
     requires { ⌜ Sized guarded w n ⌝ }
     ensures { λ r. ⌜ Follows guarded w n l1 r ⌝ }
 {
     if guarded {
-        guarded_1(w, n)
+        synth_guard1(w, n)
     } else {
-        plain_1(w, n)
+        synth_level(w, n)
     }
 }
 
-// Level 2.
+// The bands of level 2.
 fn level_2(w: usize, n: usize, guarded: bool) -> Level
     requires { ⌜ Sized guarded w n ⌝ }
     ensures { λ r. ⌜ Follows guarded w n l2 r ⌝ }
 {
     if guarded {
-        guarded_2(w, n)
+        synth_guard2(w, n)
     } else {
         let u = unit_of(w, n);
-        stride(2 * n, w / 8, 64 * u, 4 * u, 2, 1)
+        synth_level_stride(2 * n, w / 8, 64 * u, 4 * u, 2, 1)
     }
 }
 
-// Level 3.
+// The bands of level 3.
 fn level_3(w: usize, n: usize, guarded: bool) -> Level
     requires { ⌜ Sized guarded w n ⌝ }
     ensures { λ r. ⌜ Follows guarded w n l3 r ⌝ }
 {
     if guarded {
-        guarded_3(w, n)
+        synth_guard3(w, n)
     } else {
         let u = unit_of(w, n);
-        stride(4 * n, w / 4, 68 * u, 16 * u, 4, 2)
+        synth_level_stride(4 * n, w / 4, 68 * u, 16 * u, 4, 2)
     }
 }
 

@@ -10,12 +10,12 @@ use lib.IntN.{ℤ, pos}
 use mir.Syntax.{w32}
 use mir.Val.{SFits}
 use Rattle.wrap32.proofs.Laws.{addW-fits, subW-fits}
-use Rattle.wrap32.specs.Cut.{addW, subW, signOf, isOdd, edgeDetail}
+use Rattle.wrap32.specs.Cut.{addW, signOf, isOdd, edgeDetail}
 use Rattle.lists.specs.Lists.{tab, fill}
 use Rattle.lists.proofs.Tab.{length-tab}
 use Rattle.format.specs.Synthesis.{sumOf}
 use Rattle.format.proofs.LiftingLaws.{either}
-use Rattle.lifting.specs.Lift.{at, lowStep, highStep, evenAt, oddAt, liftAt, liftRow}
+use Rattle.lifting.specs.Lift.{at, lowStep, highStep, evenAt, oddAt, liftAt}
 
 pub lowStep-fits : (l p c : ℤ) → SFits w32 (lowStep l p c)
 unfolding lowStep

@@ -10,13 +10,15 @@ ghost use Rattle.lists.specs.Lists.{part, putAt};
 ghost use Rattle.lists.proofs.Put.{Clear};
 ghost use Rattle.lifting.specs.Lift.{lowStep, highStep, lowRow, highRow, endRow, liftRow, edgeRow, sumRow};
 
-pub fn low_step(l: i32, p: i32, c: i32) -> i32
+// l less a quarter of (p + c + 2).
+fn low_step(l: i32, p: i32, c: i32) -> i32
     ensures { λ r. ⌜ r ≡ lowStep l p c ⌝ }
 {
     wrapping_sub(l, wrapping_add(wrapping_add(p, c), 2) >> 2)
 }
 
-pub fn high_step(h: i32, a: i32, b: i32) -> i32
+// h plus half of (a + b).
+fn high_step(h: i32, a: i32, b: i32) -> i32
     ensures { λ r. ⌜ r ≡ highStep h a b ⌝ }
 {
     wrapping_add(h, wrapping_add(a, b) >> 1)
@@ -30,18 +32,6 @@ pub fn lift_low(dst: &mut [i32], low: &[i32], prev: &[i32], cur: &[i32])
     let mut x = 0;
     while x < dst.len() {
         dst[x] = low_step(low[x], prev[x], cur[x]);
-        x += 1;
-    }
-}
-
-// The high results of one row.
-pub fn lift_high(dst: &mut [i32], high: &[i32], a: &[i32], b: &[i32])
-    requires { ⌜ (length (now dst) ≤ length (now high)) × (length (now dst) ≤ length (now a)) × (length (now dst) ≤ length (now b)) ⌝ }
-    ensures { λ _. ⌜ now (dst .exit) ≡ highRow (length (now (dst .entry))) (now (high .entry)) (now (a .entry)) (now (b .entry)) ⌝ }
-{
-    let mut x = 0;
-    while x < dst.len() {
-        dst[x] = high_step(high[x], a[x], b[x]);
         x += 1;
     }
 }

@@ -1,6 +1,6 @@
 -- Where rows stand: bounds of the address. Assumes nothing.
-use mathlib.Core.Path.{_≡_, refl, sym, ap, _∙_}
-use Prim.Native.Nat.{ℕ, zero, suc, _+_, _-_, _*_, _/_, _%_, _≤_, _<_}
+use mathlib.Core.Path.{_≡_, refl, sym}
+use Prim.Native.Nat.{ℕ, zero, suc, _+_, _*_, _/_, _%_, _≤_}
 use native.Mathlib.Nat.{mul-le-mul-right, div-add-mod'}
 use native.Mathlib.Omega.{arith}
 use Rattle.passes.specs.declared.Band.{Band}

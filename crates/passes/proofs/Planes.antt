@@ -2,7 +2,7 @@
 use mathlib.Core.Path.{_≡_, refl, sym, ap, _∙_}
 use mathlib.Core.Bool.{Bool, true, false, cond}
 use mathlib.Core.List.{List, _++_}
-use mathlib.Core.Logic.{_⊎_, inl, inr, ⊎-elim}
+use mathlib.Core.Logic.{⊎-elim}
 use Prim.Native.Nat.{ℕ, zero, suc, _+_, _-_, _*_, _/_, _%_, _≤_, _<_, min}
 use native.Mathlib.Nat.{eq-or-lt-of-le}
 use native.Mathlib.Omega.{arith}
@@ -11,9 +11,9 @@ use borrow.Author.Tests.{ltb-true, ltb-false, ne-eqb}
 use lib.IntN.{ℤ, pos}
 use lib.Signed.{shrZ}
 use Rattle.wrap32.specs.Cut.{addW, subW}
-use Rattle.lists.specs.Lists.{tab, rows}
+use Rattle.lists.specs.Lists.{rows}
 use Rattle.lists.proofs.Tab.{getD-tab, tab-same}
-use Rattle.format.specs.Lifting.{Signal, Plane, weave, Lead, lowLeads, highLeads, taken, added, lowOut, highOut, lift}
+use Rattle.format.specs.Lifting.{Plane, weave, Lead, lowLeads, highLeads, taken, added, lowOut, highOut, lift}
 use Rattle.format.specs.Table.{hl, lh, hh}
 use Rattle.format.specs.Table as table
 use Rattle.format.specs.Synthesis.{down, across, level, flat}
@@ -21,14 +21,11 @@ use Rattle.format.proofs.LiftingLaws.{weave-even, weave-odd, branch}
 use Rattle.format.proofs.T800Laws.{added-first, added-last, added-inner}
 use Rattle.lifting.specs.Lift.{at, lowStep, highStep, lowRow, highRow, endRow, liftAt, liftRow}
 use Rattle.passes.specs.declared.Level.{Level}
+use Rattle.passes.specs.Held.{line}
 use Rattle.passes.specs.Level as rowwise
 use Rattle.passes.specs.Level.{bandRow, vEven, vOdd, vLow, vHigh, loE, hiE, loO, hiO, twoRows, loL, hiL, loH, hiH, leadTwo, leading}
 use Rattle.passes.proofs.PassLaws.{rows-pairs, level-two}
 use Rattle.passes.proofs.LeadLaws.{lead-same, lead-more}
-
--- row y of a plane of w columns, as a list
-abbrev pub line : ℕ → Plane → ℕ → List ℤ
-line w p y = tab w (p y)
 
 pub at-line : (w : ℕ) (p : Plane) (y x : ℕ) → x < w → at (line w p y) x ≡ p y x
 at-line w p y x h = getD-tab w (p y) x (pos 0) h

@@ -2,3 +2,4 @@ pub mod HeldLaws
 pub mod StoppedLaws
 pub mod GoodLaws
 pub mod PlaneLaws
+pub mod AfterLaws

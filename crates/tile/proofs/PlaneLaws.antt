@@ -1,32 +1,36 @@
 -- From what each step leaves to the planes of the stream. Assumes nothing.
 use mathlib.Core.Path.{_≡_, refl, sym, ap, _∙_}
-use mathlib.Core.Bool.{Bool, true, false}
-use mathlib.Core.List.{List}
-use Prim.Native.Nat.{ℕ, zero, suc, _+_, _*_, _/_, _%_, _^_, _≤_, _<_}
-use native.Mathlib.Nat.{mul-le-mul, mul-le-mul-right}
+use mathlib.Core.Bool.{Bool, true, false, not}
+use mathlib.Core.List.{List, _++_}
+use Prim.Native.Nat.{ℕ, zero, suc, _+_, _-_, _*_, _/_, _%_, _≤_, _<_}
+use native.Mathlib.Nat.{mul-le-mul, mul-le-mul-left, mul-le-mul-right, div-le-self}
 use native.Mathlib.Omega.{arith}
+use lib.Dec.{eqb}
 use lib.IntN.{ℤ, pos}
-use lib.ListN.{length, getD, drop}
+use lib.ListN.{length, getD, take, drop, length-replicate}
+use lib.Seq.{length-take-le}
 use Rattle.lists.specs.Lists.{part, putAt}
 use Rattle.lists.proofs.Tab.{getD-part}
 use Rattle.lists.proofs.Put.{getD-put-above}
-use Rattle.format.specs.Sizes.{Colour, green, red, blue, l3, final, stripes, guarded, planeRows, planeRowsOf}
+use Rattle.format.specs.Sizes.{Colour, green, red, blue, l3, final, stripes, guarded, planeRows, planeRowsOf, planeColumns, workLength}
 use Rattle.format.specs.Strip.{width, codedHeight}
 use Rattle.format.specs.Packets.{packetOf, kind}
-use Rattle.format.specs.Coefficients.{packetValues}
+use Rattle.format.specs.Coefficients.{zeros, packetValues, coefs}
 use Rattle.format.specs.Lifting.{Plane, SameOn}
 use Rattle.format.specs.Table.{mode, chosen}
 use Rattle.format.specs.Synthesis.{outcome, bothGreens, flat, planes}
-use Rattle.format.proofs.Accepted.{Good}
-use Rattle.format.proofs.Exact.{Tall, tall-of}
+use Rattle.format.proofs.Accepted.{Good, Accepted}
+use Rattle.format.proofs.Exact.{Tall}
 use Rattle.format.proofs.Lengths.{length-packet}
 use Rattle.format.proofs.PlaceLaws.{read-flat}
+use Rattle.format.proofs.Theorems.{length-planes}
 use Rattle.packets.specs.Answers.{colourOf}
 use Rattle.passes.specs.Held.{unit, held, readAt, Sized}
+use Rattle.passes.proofs.SizedLaws.{sized-of, work-units}
 use Rattle.levels.specs.Levels.{coefsIn, Stands}
 use Rattle.tile.specs.Coefficients.{bandValues, planeValues}
-use Rattle.tile.specs.Decode.{Measured, planeOf}
-use Rattle.tile.proofs.HeldLaws.{HoldsPlane, HoldsBand, outcome-held, plane-held, red-plane, blue-plane, green-plane, final-held}
+use Rattle.tile.specs.Decode.{Measured, planeOf, onto}
+use Rattle.tile.proofs.HeldLaws.{HoldsPlane, outcome-held, plane-held, red-plane, blue-plane, green-plane, final-held}
 use Rattle.tile.proofs.GoodLaws.{size, kinds}
 
 -- three rows of lo and hi at level 3 fit in green's plane
@@ -40,15 +44,7 @@ ring-room g w n s = let m : 8 * w ≤ planeRows g n * w = mul-le-mul-right w (so
 module _ (s : List ℕ) (good : Good s) (w n : ℕ) (g : Bool) (m : Measured s w n g) where
   -- the sizes that synthesis asks
   pub sized : Sized g w n
-  sized =
-      let units : unit w n ≤ 2049 * 4096 = mul-le-mul {n₁ = n + 1} {m₁ = w / 16} {n₂ = 2049} {m₂ = 4096} (omega (arith, m .tall, good .low)) (omega (arith, m .wide, good .narrow)) in
-      record {
-        whole = omega (arith, m .wide, good .whole);
-        wide = omega (arith, m .wide, good .wide);
-        tall = rw (m .guard, m .tall) (tall-of (codedHeight s) (good .tall));
-        few = omega (arith, m .tall, good .low);
-        small = omega (arith, units);
-      }
+  sized = rw (m .guard, m .wide, m .tall) (sized-of (width s) (codedHeight s) (size s good) (good .wide) (good .narrow) (omega (arith, good .low)))
 
   -- red and blue
   odd-mode : (k : ℕ) → 1 ≤ k → k < 3 → mode l3 (colourOf k) ≡ true
@@ -126,3 +122,63 @@ module _ (s : List ℕ) (good : Good s) where
   green-done w n g m old one two three plane e l h f q =
       (rw (f, m .wide, m .tall, m .guard) at q)
       ∙ green-is old one two e (rw (m .wide, m .tall) at l) (rw (m .wide, m .tall, m .guard) at h)
+
+-- ---- the lent slices: a plane of r rows, and the work slice
+pub first-part : (l : List ℤ) (a n : ℕ) → a ≤ length l → a ≡ n → length (take (a - 0) l) ≡ n
+first-part l a n h e = let z : a - 0 ≡ a = omega arith in ap (λ (k : ℕ). length (take k l)) z ∙ length-take-le a l h ∙ e
+
+module _ (s : List ℕ) (greenN redN blueN workN : ℕ) (ok : Accepted s greenN redN blueN workN) (w h r : ℕ) (ew : w ≡ width s) (eh : h ≡ codedHeight s) (er : r ≡ planeRowsOf h) where
+  rows-are : r ≡ planeRowsOf (codedHeight s)
+  rows-are = er ∙ ap planeRowsOf eh
+
+  pub full-is : r * w ≡ planeRowsOf (codedHeight s) * planeColumns (width s) green
+  full-is = (λ j. rows-are j * ew j)
+
+  pub half-is : r * (w / 2) ≡ planeRowsOf (codedHeight s) * planeColumns (width s) red
+  half-is = (λ j. rows-are j * (ew j / 2))
+
+  pub work-is : 16 * ((h + 15) / 16 + 1) * w ≡ workLength (width s) (codedHeight s)
+  work-is = (λ j. 16 * ((eh j + 15) / 16 + 1) * ew j)
+
+  pub full-small : r * w ≤ 134217728
+  full-small = omega (arith, full-is, ok .small)
+
+  pub half-small : r * (w / 2) ≤ 134217728
+  half-small = let m = mul-le-mul-left r (div-le-self w 2) in omega (arith, full-small)
+
+  pub work-small : 16 * ((h + 15) / 16 + 1) * w ≤ 16 * 2049 * 65536
+  work-small = mul-le-mul {n₁ = 16 * ((h + 15) / 16 + 1)} {m₁ = w} {n₂ = 16 * 2049} {m₂ = 65536} (omega (arith, eh, ok .good .low)) (omega (arith, ew, ok .good .narrow))
+
+  pub full-room : r * w ≤ greenN
+  full-room = omega (arith, full-is, ok .greens)
+
+  pub red-room : r * (w / 2) ≤ redN
+  red-room = omega (arith, half-is, ok .reds)
+
+  pub blue-room : r * (w / 2) ≤ blueN
+  blue-room = omega (arith, half-is, ok .blues)
+
+  pub work-room : 16 * ((h + 15) / 16 + 1) * w ≤ workN
+  work-room = omega (arith, work-is, ok .works)
+
+  pub measured : Measured s w ((h + 15) / 16) (not (eqb (h % 16) 0))
+  measured = record { wide = ew; tall = ap stripes eh; guard = ap guarded eh }
+
+  pub planes-rows : planeRows (not (eqb (h % 16) 0)) ((h + 15) / 16) ≡ r
+  planes-rows = sym er
+
+  pub work-256 : 16 * ((h + 15) / 16 + 1) * w ≡ 256 * unit w ((h + 15) / 16)
+  work-256 =
+      let a = sym ew in
+      let b = sym (ap stripes eh) in
+      work-is ∙ work-units (width s) (codedHeight s) (ok .good .whole) ∙ (λ j. 256 * unit (a j) (b j))
+
+  -- what each slice is after the call: the part that was lent, and the rest
+  module _ (i : Colour) (old given : List ℤ) (n : ℕ) where
+    pub plane-onto : given ≡ planeOf s i → n ≡ planeRowsOf (codedHeight s) * planeColumns (width s) i → given ++ drop n old ≡ onto (planeOf s i) old
+    plane-onto e f = (λ j. e j ++ drop (f j) old) ∙ ap (λ (k : ℕ). planeOf s i ++ drop k old) (sym (length-planes (width s) (codedHeight s) (coefs s) i))
+
+  pub work-onto : (old given : List ℤ) (n : ℕ) → given ≡ zeros n → n ≡ workLength (width s) (codedHeight s) → given ++ drop n old ≡ onto (zeros (workLength (width s) (codedHeight s))) old
+  work-onto old given n e f =
+      (λ j. e j ++ drop n old) ∙ (λ j. zeros (f j) ++ drop (f j) old)
+      ∙ ap (λ (k : ℕ). zeros (workLength (width s) (codedHeight s)) ++ drop k old) (sym (length-replicate (workLength (width s) (codedHeight s)) (pos 0)))

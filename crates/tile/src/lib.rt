@@ -36,7 +36,17 @@ pub struct Decoded {
 }
 
 // The records of packet k of group g, n of them, into work: `size` numbers from `at` on. How many stopped.
-fn decode_band(stream: &[u8], g: usize, k: usize, m: usize, cols: usize, n: usize, work: &mut [i32], at: usize, size: usize) -> u64
+fn decode_band(
+    stream: &[u8],
+    g: usize,
+    k: usize,
+    m: usize,
+    cols: usize,
+    n: usize,
+    work: &mut [i32],
+    at: usize,
+    size: usize,
+) -> u64
     requires { ⌜ Readable (now stream) g k n ⌝ }
     requires { ⌜ (m ≤ 8) × (cols < 2 ^ 16) × (size ≡ n * (kind (packetOf (now stream) g k) * m * cols)) × (at + size ≤ length (now work)) ⌝ }
     ensures { λ r. ⌜ (r ≡ packetStopped (packetOf (now (stream .entry)) g k) m cols) × (r < 2 ^ 16) ⌝ }
@@ -63,7 +73,16 @@ fn decode_levels(stream: &[u8], k: usize, w: usize, n: usize, work: &mut [i32]) 
 }
 
 // The plane of red (1) or blue (2); rows in passing stand at the start of green's. How many records stopped.
-fn decode_colour(stream: &[u8], k: usize, w: usize, n: usize, guarded: bool, work: &mut [i32], full: &mut [i32], plane: &mut [i32]) -> u64
+fn decode_colour(
+    stream: &[u8],
+    k: usize,
+    w: usize,
+    n: usize,
+    guarded: bool,
+    work: &mut [i32],
+    full: &mut [i32],
+    plane: &mut [i32],
+) -> u64
     requires { ⌜ Good (now stream) ⌝ }
     requires { ⌜ Measured (now stream) w n guarded × (1 ≤ k) × (k < 3) × (length (now work) ≡ 256 * unit w n) × (length (now full) ≡ planeRows guarded n * w) × (length (now plane) ≡ planeRows guarded n * (w / 2)) ⌝ }
     ensures { λ r. ⌜ (r ≡ planeStopped (now (stream .entry)) (colourOf k)) × (r < 2 ^ 18) ⌝ }
@@ -85,7 +104,14 @@ fn make_averages(work: &mut [i32], full: &mut [i32], w: usize, n: usize, guarded
 }
 
 // The plane of green: its averages, then group 4's details. How many records stopped.
-fn decode_green(stream: &[u8], w: usize, n: usize, guarded: bool, work: &mut [i32], full: &mut [i32]) -> u64
+fn decode_green(
+    stream: &[u8],
+    w: usize,
+    n: usize,
+    guarded: bool,
+    work: &mut [i32],
+    full: &mut [i32],
+) -> u64
     requires { ⌜ Good (now stream) ⌝ }
     requires { ⌜ Measured (now stream) w n guarded × (length (now work) ≡ 256 * unit w n) × (length (now full) ≡ planeRows guarded n * w) ⌝ }
     ensures { λ r. ⌜ (r ≡ planeStopped (now (stream .entry)) green + groupStopped (now (stream .entry)) final green) × (r < 2 ^ 19) ⌝ }
@@ -100,7 +126,16 @@ fn decode_green(stream: &[u8], w: usize, n: usize, guarded: bool, work: &mut [i3
 }
 
 // The three planes, in slices of their own size, and zeros in work. How many records stopped.
-fn decode_planes(stream: &[u8], w: usize, n: usize, guarded: bool, full: &mut [i32], red: &mut [i32], blue: &mut [i32], work: &mut [i32]) -> u64
+fn decode_planes(
+    stream: &[u8],
+    w: usize,
+    n: usize,
+    guarded: bool,
+    full: &mut [i32],
+    red: &mut [i32],
+    blue: &mut [i32],
+    work: &mut [i32],
+) -> u64
     requires { ⌜ Good (now stream) ⌝ }
     requires { ⌜ Measured (now stream) w n guarded × (length (now work) ≡ 256 * unit w n) × (length (now full) ≡ planeRows guarded n * w) × (length (now red) ≡ planeRows guarded n * (w / 2)) × (length (now blue) ≡ planeRows guarded n * (w / 2)) ⌝ }
     ensures { λ r. ⌜ r ≡ stoppedOf (now (stream .entry)) ⌝ }
@@ -114,7 +149,16 @@ fn decode_planes(stream: &[u8], w: usize, n: usize, guarded: bool, full: &mut [i
 }
 
 // The planes of an accepted stream of coded size w by h and r rows, at the start of the lent slices. How many records stopped.
-fn decode_accepted(stream: &[u8], w: usize, h: usize, r: usize, full: &mut [i32], red: &mut [i32], blue: &mut [i32], work: &mut [i32]) -> u64
+fn decode_accepted(
+    stream: &[u8],
+    w: usize,
+    h: usize,
+    r: usize,
+    full: &mut [i32],
+    red: &mut [i32],
+    blue: &mut [i32],
+    work: &mut [i32],
+) -> u64
     requires { ⌜ Accepted (now stream) (length (now full)) (length (now red)) (length (now blue)) (length (now work)) ⌝ }
     requires { ⌜ (w ≡ width (now stream)) × (h ≡ codedHeight (now stream)) × (r ≡ planeRowsOf h) ⌝ }
     ensures { λ k. ⌜ k ≡ stoppedOf (now (stream .entry)) ⌝ }
@@ -139,20 +183,20 @@ fn decode_accepted(stream: &[u8], w: usize, h: usize, r: usize, full: &mut [i32]
 }
 
 // Decodes one tile's stream into the lent planes, with the work slice lent too: a refusal, with nothing changed, or all three planes.
-pub fn decode_stream(stream: &[u8], green: &mut [i32], red: &mut [i32], blue: &mut [i32], work: &mut [i32]) -> Decoded
+pub fn decode_stream(
+    stream: &[u8],
+    green: &mut [i32],
+    red: &mut [i32],
+    blue: &mut [i32],
+    work: &mut [i32],
+) -> Decoded
     ensures { λ r. ⌜ r ≡ decodedOf (answerOf (now (stream .entry)) (refusalOf (now (stream .entry)) (now (green .entry)) (now (red .entry)) (now (blue .entry)) (now (work .entry)))) ⌝ }
     ensures { λ r. ⌜ now (green .exit) ≡ planeAfter (now (stream .entry)) (refusalOf (now (stream .entry)) (now (green .entry)) (now (red .entry)) (now (blue .entry)) (now (work .entry))) (colourOf 0) (now (green .entry)) ⌝ }
     ensures { λ r. ⌜ now (red .exit) ≡ planeAfter (now (stream .entry)) (refusalOf (now (stream .entry)) (now (green .entry)) (now (red .entry)) (now (blue .entry)) (now (work .entry))) (colourOf 1) (now (red .entry)) ⌝ }
     ensures { λ r. ⌜ now (blue .exit) ≡ planeAfter (now (stream .entry)) (refusalOf (now (stream .entry)) (now (green .entry)) (now (red .entry)) (now (blue .entry)) (now (work .entry))) (colourOf 2) (now (blue .entry)) ⌝ }
     ensures { λ r. ⌜ now (work .exit) ≡ workAfter (now (stream .entry)) (refusalOf (now (stream .entry)) (now (green .entry)) (now (red .entry)) (now (blue .entry)) (now (work .entry))) (now (work .entry)) ⌝ }
 {
-    let c = check(
-        stream,
-        green.len(),
-        red.len(),
-        blue.len(),
-        work.len(),
-    );
+    let c = check(stream, green.len(), red.len(), blue.len(), work.len());
     if c.refusal != 0 {
         return Decoded {
             refusal: c.refusal as u64,

@@ -1,9 +1,9 @@
 -- `levels::edges_3` meets its contract. Assumes nothing.
-use mathlib.Core.Path.{_≡_, sym, _∙_}
-use Prim.Native.Nat.{ℕ, _+_, _-_, _*_}
+use mathlib.Core.Path.{_≡_, _∙_}
+use Prim.Native.Nat.{_+_, _-_, _*_}
 use native.Mathlib.Omega.{arith}
 use Rattle.format.specs.Sizes.{l3}
-use Rattle.levels.proofs.EdgeRows.{edge-room, packet-end, plain3-edged, guarded3-edged}
+use Rattle.levels.proofs.EdgeRows.{edge-room, plain3-edged, guarded3-edged}
 use borrow.Author.Needs.{needs}
 use Rattle.levels.proofs.edges_3.Statement.{statement}
 use Rattle.levels.proofs.edges_3.Tie as tie

@@ -1,10 +1,7 @@
 -- `levels::first_level` meets its contract. Assumes nothing.
-use mathlib.Core.Path.{_≡_, sym, ap, _∙_}
+use mathlib.Core.Path.{ap, _∙_}
 use Prim.Native.Nat.{ℕ, _*_}
-use native.Mathlib.Omega.{arith}
 use Rattle.format.specs.Sizes.{l1}
-use Rattle.lists.specs.Lists.{putAt}
-use Rattle.levels.specs.Levels.{summed, passed}
 use Rattle.levels.proofs.Lows.{sums-room, level-asks, highs-1, first-leaves}
 use borrow.Author.Needs.{needs}
 use Rattle.levels.proofs.first_level.Statement.{statement}

@@ -1,13 +1,12 @@
 -- `levels::low_levels` meets its contract. Assumes nothing.
-use mathlib.Core.Path.{_≡_, sym, ap, _∙_}
-use native.Mathlib.Omega.{arith}
+use mathlib.Core.Path.{_∙_}
 use Rattle.levels.proofs.Top.{ready}
 use borrow.Author.Needs.{needs}
 use Rattle.levels.proofs.low_levels.Statement.{statement}
 use Rattle.levels.proofs.low_levels.Tie as tie
 
 returns : tie.Need-returns
-returns c =  λ i m.
+returns c = λ i m.
     let f = c .before .before .before .before .before in
     let g = f .before .before .before .before .before in
     let h = g .before .before .before in

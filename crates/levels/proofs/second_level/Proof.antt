@@ -1,10 +1,7 @@
 -- `levels::second_level` meets its contract. Assumes nothing.
-use mathlib.Core.Path.{_≡_, sym, ap, _∙_}
+use mathlib.Core.Path.{ap, _∙_}
 use Prim.Native.Nat.{ℕ, _*_}
-use native.Mathlib.Omega.{arith}
 use Rattle.format.specs.Sizes.{l2}
-use Rattle.lists.specs.Lists.{putAt}
-use Rattle.levels.specs.Levels.{passed}
 use Rattle.levels.proofs.Lows.{level-asks, highs-2, second-leaves}
 use borrow.Author.Needs.{needs}
 use Rattle.levels.proofs.second_level.Statement.{statement}

@@ -1,8 +1,7 @@
 -- `ring::emit` meets its contract. Assumes nothing.
-use mathlib.Core.Path.{_≡_, sym}
+use mathlib.Core.Path.{_≡_}
 use Prim.Native.Nat.{_+_, _-_, _*_}
 use native.Mathlib.Omega.{arith}
-use lib.ListN.{length}
 use Rattle.lists.proofs.Tab.{part-back, length-tab}
 use Rattle.lists.specs.Lists.{part}
 use Rattle.lifting.specs.Lift.{liftRow}

@@ -1,6 +1,5 @@
 -- `ring::emit_two` meets its contract. Assumes nothing.
-use mathlib.Core.Path.{_≡_, sym, _∙_}
-use Prim.Native.Nat.{_+_, _-_, _*_}
+use Prim.Native.Nat.{_+_, _*_}
 use native.Mathlib.Omega.{arith}
 use Rattle.lists.proofs.Part.{put-next}
 use Rattle.lists.proofs.Tab.{length-tab}
