@@ -3,6 +3,9 @@ ghost use mathlib.Core.Path.{_≡_};
 ghost use lib.ListN.{length};
 ghost use Rattle.format.specs.Strip.{tilesOf};
 ghost use Rattle.strip.specs.Answers.{tileField};
+ghost use Rattle.tile.specs.Decode.{TileOutcome};
+use tile::Decoded;
+use tile::decode_stream;
 
 // How many tiles a strip has in a frame.
 #[no_mangle]
@@ -24,4 +27,12 @@ pub extern "C" fn arw6_tile_field(
     ensures { λ r. ⌜ r ≡ tileField (tilesOf (now (strip .entry)) «frame_width» «frame_height») ordinal field ⌝ }
 {
     strip::tile_field(strip, frame_width, frame_height, ordinal, field)
+}
+
+// One tile: a refusal, with no slice changed, or the coded size, rows and stopped records with the three planes.
+#[no_mangle]
+pub extern "C" fn arw6_decode_stream(stream: &[u8], green: &mut [i32], red: &mut [i32], blue: &mut [i32], work: &mut [i32]) -> Decoded
+    ensures { λ r. ⌜ TileOutcome (now (stream .entry)) (now (green .entry)) (now (red .entry)) (now (blue .entry)) (now (work .entry)) r (now (green .exit)) (now (red .exit)) (now (blue .exit)) (now (work .exit)) ⌝ }
+{
+    decode_stream(stream, green, red, blue, work)
 }

@@ -10,7 +10,8 @@ use Rattle.format.specs.Strip.{width, codedHeight}
 use Rattle.format.specs.Refusals.{refusal}
 use Rattle.format.specs.Coefficients.{coefs}
 use Rattle.format.specs.Synthesis.{planes}
-use Rattle.format.specs.Tile.{Answer}
+use Rattle.format.specs.Sizes as sizes
+use Rattle.format.specs.Tile.{Answer, answerOf, planeAfter, workAfter}
 use Rattle.tile.specs.declared.Decoded.{Decoded}
 
 -- a stream's width, its n, and whether its height is guarded
@@ -34,3 +35,11 @@ refusalOf s full red blue work = refusal s (length full) (length red) (length bl
 -- document 01's answer, as the code has it
 abbrev pub decodedOf : Answer → Decoded
 decodedOf a = record { refusal = a .refusal; width = a .width; height = a .height; rows = a .rows; stopped = a .stopped }
+
+-- The whole outcome of a call of `decode_stream` on a stream and four lent slices: the answer, and each slice after it (primed)
+pub record TileOutcome (s : List ℕ) (full red blue work : List ℤ) (r : Decoded) (full′ red′ blue′ work′ : List ℤ) : Type 0 where
+  pub answer : r ≡ decodedOf (answerOf s (refusalOf s full red blue work))
+  pub greens : full′ ≡ planeAfter s (refusalOf s full red blue work) sizes.green full
+  pub reds : red′ ≡ planeAfter s (refusalOf s full red blue work) sizes.red red
+  pub blues : blue′ ≡ planeAfter s (refusalOf s full red blue work) sizes.blue blue
+  pub works : work′ ≡ workAfter s (refusalOf s full red blue work) work

@@ -15,7 +15,6 @@ ghost use Rattle.format.specs.Sizes.{green, red, blue, final, stripes, planeRow
 ghost use Rattle.format.specs.Strip.{width, codedHeight};
 ghost use Rattle.format.specs.Packets.{packetOf, kind};
 ghost use Rattle.format.specs.Coefficients.{zeros, packetValues, packetStopped, groupStopped, planeStopped, stoppedOf};
-ghost use Rattle.format.specs.Tile.{answerOf, planeAfter, workAfter};
 ghost use Rattle.format.proofs.Accepted.{Good, Accepted};
 ghost use Rattle.packets.specs.Answers.{colourOf};
 ghost use Rattle.format.specs.Synthesis.{outcome};
@@ -23,7 +22,7 @@ ghost use Rattle.passes.specs.Held.{unit, Sized};
 ghost use Rattle.levels.specs.Levels.{coefsIn, Stands};
 ghost use Rattle.tile.specs.Coefficients.{planeValues};
 ghost use Rattle.tile.specs.Readable.{Readable};
-ghost use Rattle.tile.specs.Decode.{Measured, planeOf, onto, refusalOf, decodedOf};
+ghost use Rattle.tile.specs.Decode.{Measured, planeOf, onto, TileOutcome};
 
 // A refusal with every other field 0, or 0 with the coded size, the rows of the planes and the count of stopped records.
 #[repr(C)]
@@ -190,11 +189,7 @@ pub fn decode_stream(
     blue: &mut [i32],
     work: &mut [i32],
 ) -> Decoded
-    ensures { λ r. ⌜ r ≡ decodedOf (answerOf (now (stream .entry)) (refusalOf (now (stream .entry)) (now (green .entry)) (now (red .entry)) (now (blue .entry)) (now (work .entry)))) ⌝ }
-    ensures { λ r. ⌜ now (green .exit) ≡ planeAfter (now (stream .entry)) (refusalOf (now (stream .entry)) (now (green .entry)) (now (red .entry)) (now (blue .entry)) (now (work .entry))) (colourOf 0) (now (green .entry)) ⌝ }
-    ensures { λ r. ⌜ now (red .exit) ≡ planeAfter (now (stream .entry)) (refusalOf (now (stream .entry)) (now (green .entry)) (now (red .entry)) (now (blue .entry)) (now (work .entry))) (colourOf 1) (now (red .entry)) ⌝ }
-    ensures { λ r. ⌜ now (blue .exit) ≡ planeAfter (now (stream .entry)) (refusalOf (now (stream .entry)) (now (green .entry)) (now (red .entry)) (now (blue .entry)) (now (work .entry))) (colourOf 2) (now (blue .entry)) ⌝ }
-    ensures { λ r. ⌜ now (work .exit) ≡ workAfter (now (stream .entry)) (refusalOf (now (stream .entry)) (now (green .entry)) (now (red .entry)) (now (blue .entry)) (now (work .entry))) (now (work .entry)) ⌝ }
+    ensures { λ r. ⌜ TileOutcome (now (stream .entry)) (now (green .entry)) (now (red .entry)) (now (blue .entry)) (now (work .entry)) r (now (green .exit)) (now (red .exit)) (now (blue .exit)) (now (work .exit)) ⌝ }
 {
     let c = check(stream, green.len(), red.len(), blue.len(), work.len());
     if c.refusal != 0 {
