@@ -31,7 +31,13 @@ pub extern "C" fn arw6_tile_field(
 
 // One tile: a refusal, with no slice changed, or the coded size, rows and stopped records with the three planes.
 #[no_mangle]
-pub extern "C" fn arw6_decode_stream(stream: &[u8], green: &mut [i32], red: &mut [i32], blue: &mut [i32], work: &mut [i32]) -> Decoded
+pub extern "C" fn arw6_decode_stream(
+    stream: &[u8],
+    green: &mut [i32],
+    red: &mut [i32],
+    blue: &mut [i32],
+    work: &mut [i32],
+) -> Decoded
     ensures { λ r. ⌜ TileOutcome (now (stream .entry)) (now (green .entry)) (now (red .entry)) (now (blue .entry)) (now (work .entry)) r (now (green .exit)) (now (red .exit)) (now (blue .exit)) (now (work .exit)) ⌝ }
 {
     decode_stream(stream, green, red, blue, work)

@@ -1,13 +1,13 @@
 -- Laws of the header and of the directory: blocks, groups and packets one after the other. Assumes nothing.
-use mathlib.Core.Path.{_≡_, refl, sym, ap, _∙_}
+use mathlib.Core.Path.{_≡_, refl, ap, _∙_}
 use mathlib.Core.List.{List}
-use mathlib.Core.Bool.{Bool, true, false, not}
+use mathlib.Core.Bool.{true, not}
 use Prim.Native.Nat.{ℕ, zero, suc, _+_, _≤_, _<_}
 use native.Mathlib.Omega.{arith}
 use native.Mathlib.Nat.{add-zero}
 use lib.ListN.{length}
 use lib.Dec.{ltb}
-use borrow.Author.Tests.{lt-ltb, le-ltb, ltb-true, ltb-false, leb-true, not-false}
+use borrow.Author.Tests.{lt-ltb, le-ltb, ltb-true, ltb-false, leb-true}
 use Rattle.format.specs.Strip.{magic, sides, marks, validHeader, groupSize}
 use Rattle.format.specs.Packets.{sum, entryCount, hasEntry, entryLength, blockSize, blockAt, groupStart, packetStart, packetLength}
 use Rattle.format.specs.Refusals.{on, each, entryRefusal, groupRefusal, directoryRefusal, refusal}
@@ -16,10 +16,6 @@ use Rattle.format.proofs.TurnLaws.{one, sum-none, sum-on, both-none, no
 pub valid-long : (s : List ℕ) → validHeader s ≡ true → 128 ≤ length s
 unfolding validHeader
 valid-long s h = leb-true _ _ (and-true _ (magic s) (and-true _ (sides s) (and-true _ (marks s) h .0) .0) .0)
-
--- the same, of a test that was read
-pub header-long : (s : List ℕ) (b : Bool) → b ≡ validHeader s → not b ≡ false → 128 ≤ length s
-header-long s b e h = valid-long s (sym e ∙ not-false b h)
 
 pub refusal-long : (s : List ℕ) (greenN redN blueN workN : ℕ) → refusal s greenN redN blueN workN ≡ 0 → 128 ≤ length s
 unfolding refusal

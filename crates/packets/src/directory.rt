@@ -2,29 +2,17 @@
 ghost use mathlib.Core.Path.{_≡_};
 ghost use Prim.Native.Nat.{_+_, _*_, _^_, _<_, _≤_};
 ghost use lib.ListN.{length};
-ghost use Rattle.format.specs.Strip.{groupSize};
 ghost use Rattle.format.specs.Packets.{sum, entryCount, blockSize, lengthPlace, entryLength, blockAt, groupStart, packetStart, packetLength};
 ghost use Rattle.format.specs.Refusals.{each, entryRefusal, groupRefusal, directoryRefusal};
 ghost use Rattle.packets.specs.Answers.{entryOf};
+use strip::TileStream;
+use strip::group_size;
 use words::field;
-
-// Where a stream's directory and its first packet start.
-const DIRECTORY: usize = 48;
-
-const HEADER: usize = 128;
 
 // Where an entry's packet starts in the stream, and its length.
 pub enum DirEntry {
     At(usize, usize),
     Missing,
-}
-
-// The size of a group in bytes.
-fn group_size(stream: &[u8], group: usize) -> usize
-    requires { ⌜ (128 ≤ length (now stream)) × (group < 5) ⌝ }
-    ensures { λ r. ⌜ (r ≡ groupSize (now (stream .entry)) group) × (r < 2 ^ 28) ⌝ }
-{
-    field(stream, 8 * (16 + 3 * group), 24) * 16
 }
 
 // The entry count of the block at a byte.
@@ -69,7 +57,7 @@ fn block_at(stream: &[u8], group: usize) -> usize
     requires { ⌜ (128 ≤ length (now stream)) × (group < 5) ⌝ }
     ensures { λ r. ⌜ (r ≡ blockAt (now (stream .entry)) group) × (r < 2 ^ 31) ⌝ }
 {
-    let mut at = DIRECTORY;
+    let mut at = TileStream::DIRECTORY;
     let mut i = 0;
     while i < group {
         at += block_size(stream, at);
@@ -83,7 +71,7 @@ fn group_start(stream: &[u8], group: usize) -> usize
     requires { ⌜ (128 ≤ length (now stream)) × (group < 5) ⌝ }
     ensures { λ r. ⌜ (r ≡ groupStart (now (stream .entry)) group) × (r < 2 ^ 40) ⌝ }
 {
-    let mut start = HEADER;
+    let mut start = TileStream::HEADER;
     let mut i = 0;
     while i < group {
         start += group_size(stream, i);

@@ -9,10 +9,11 @@ ghost use Rattle.format.specs.Strip.{codedHeight};
 ghost use Rattle.format.specs.Packets.{packetStart, packetLength, packetOf};
 ghost use Rattle.format.specs.Refusals.{isDetail, wrongCount, tileRefusal, directoryRefusal, entryCheck, planeRefusal, packetsRefusal, lentRefusal, refusal};
 ghost use Rattle.packets.specs.Answers.{groupOf, colourOf, checkedOf};
+use strip::StreamHeader;
+use strip::parse_stream_header;
 use words::field;
 
 mod directory;
-mod header;
 mod records;
 
 // The most numbers that a plane has.
@@ -229,17 +230,10 @@ fn check_lent(w: usize, height: usize, green: usize, red: usize, blue: usize, wo
 fn first_refusal(stream: &[u8], green: usize, red: usize, blue: usize, work: usize) -> u32
     ensures { λ r. ⌜ r ≡ refusal (now (stream .entry)) green red blue work ⌝ }
 {
-    if !header::valid_header(stream) {
+    let StreamHeader::Valid(h) = parse_stream_header(stream) else {
         return 2;
-    }
-    let a = check_lent(
-        field(stream, 64, 16),
-        coded_height(stream),
-        green,
-        red,
-        blue,
-        work,
-    );
+    };
+    let a = check_lent(h.width, h.height, green, red, blue, work);
     if a != 0 {
         return a;
     }
