@@ -25,7 +25,7 @@ pub fn less(a: u64, b: u64) -> u64
 }
 
 // The bits that x has.
-fn bit_length(x: u64) -> u64
+pub fn bit_length(x: u64) -> u64
     ensures { λ r. ⌜ (r ≡ bitLength x) × (r ≤ 64) ⌝ }
 {
     64 - (u64::leading_zeros(x) as u64)
@@ -66,7 +66,7 @@ pub struct BitReader {
     pub place: u64,
     pub cache: u64,
     pub remaining: u64,
-    pub status: u8,
+    pub status: u64,
 }
 
 // A value that was read, and the reader after it.
