@@ -1,17 +1,17 @@
 -- A zero run out of one word. Assumes nothing.
 use borrow.Author.Tests.{eq-eqb, ne-eqb}
-use mathlib.Core.Path.{_≡_, refl, sym, ap, _∙_}
+use mathlib.Core.Path.{_≡_, sym, ap, _∙_}
 use mathlib.Core.Logic.{⊎-elim}
 use mathlib.Core.List.{List}
-use Prim.Native.Nat.{ℕ, suc, _+_, _-_, _*_, _/_, _%_, _^_, _≤_, _<_, min}
+use Prim.Native.Nat.{ℕ, _+_, _-_, _*_, _/_, _%_, _^_, _≤_, _<_, min}
 use native.Mathlib.Nat.{add-zero, sub-zero, div-eq-of-lt, lt-of-lt-of-le}
 use native.Mathlib.Omega.{arith}
 use lib.Count.{leadingZeros, leading-length}
 use lib.Dec.{lit≤}
 use lib.Pow.{pow-mono, pow-pos}
 use Rattle.format.specs.Bits.{bitsAt, bitAt}
-use Rattle.format.specs.Reader.{Reader, Taken, skipped, readOf, findOf, runOf, unaryOf, atMost, kept, bitLength}
-use Rattle.format.specs.Coefficients.{RunAnswer, widthAfter, zerosOf}
+use Rattle.format.specs.Reader.{Reader, Taken, skipped, findOf, runOf, unaryOf, atMost, bitLength}
+use Rattle.format.specs.Coefficients.{widthAfter, zerosOf}
 use Rattle.format.proofs.BitLaws.{le-or-lt, bits-add, prefix-of, middle-of, lead-some, lead-one}
 use Rattle.bits.proofs.Fast.{read-within, unary-within, find-within, find-nothing}
 use Rattle.bits.proofs.Run.{exponent-lt, power-below, run-one, run-none, run-part}

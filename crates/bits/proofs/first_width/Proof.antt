@@ -1,11 +1,10 @@
 -- `first_width` meets its contract. Assumes nothing.
 use native.Mathlib.Omega.{arith}
-use native.Mathlib.Nat.{zero-add}
 use mathlib.Core.Path.{_≡_, refl, ap, _∙_}
 use Prim.Native.Nat.{ℕ, _+_, _*_, _%_, _^_, _≤_}
 use lib.Count.{leadingZeros, leading-le}
 use lib.Dec.{lit≤}
-use Rattle.format.specs.Reader.{Taken, skipped}
+use Rattle.format.specs.Reader.{skipped}
 use Rattle.format.proofs.BitLaws.{prefix-of}
 use Rattle.bits.proofs.Fast.{word-keeps, word-none, word-grows}
 use Rattle.bits.proofs.first_width.Statement.{statement}

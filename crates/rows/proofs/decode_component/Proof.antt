@@ -1,6 +1,6 @@
 -- `decode_component` meets its contract. Assumes nothing.
 use borrow.Author.Needs.{needs}
-use mathlib.Core.Path.{_≡_, refl, sym, ap, _∙_}
+use mathlib.Core.Path.{_≡_, refl, ap, _∙_}
 use mathlib.Core.List.{[]}
 use Prim.Native.Nat.{_-_, ℕ, _+_, _*_, _/_, _≤_}
 use native.Mathlib.Omega.{arith}

@@ -1,7 +1,7 @@
 -- `with_bit` meets its contract. Assumes nothing.
 use borrow.Author.Needs.{needs}
 use native.Mathlib.Omega.{arith}
-use mathlib.Core.Path.{_≡_, sym, ap, _∙_}
+use mathlib.Core.Path.{_≡_, ap, _∙_}
 use lib.IntN.{ℤ, pos, _-ℤ_}
 use Prim.Native.Nat.{_-_}
 use mir.Syntax.{w32}
