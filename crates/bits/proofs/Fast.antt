@@ -3,12 +3,13 @@ use borrow.Author.Tests.{le-leb, lt-ltb, le-ltb}
 use mathlib.Core.Path.{_≡_, sym, ap, _∙_}
 use mathlib.Core.List.{List}
 use Prim.Native.Nat.{ℕ, _+_, _-_, _*_, _/_, _%_, _^_, _≤_, _<_, min}
+use native.Mathlib.Nat.{add-zero, sub-zero}
 use native.Mathlib.Omega.{arith}
 use lib.Count.{leadingZeros}
 use Rattle.format.specs.Bits.{bitsAt, bitAt, zerosAt}
 use Rattle.format.specs.Reader.{Reader, Taken, readOf, unaryOf, findOf, updateOf, skipped, grown, shrunk}
 use Rattle.format.proofs.BitLaws.{prefix-of, middle-of, lead-some, lead-one, zeros-found, zeros-all, bits-add}
-use Rattle.bits.proofs.Update.{update-zero, update-grown, update-shrunk}
+use Rattle.bits.proofs.Update.{update-zero, update-grown, update-shrunk, find-none}
 
 module _ (s : List ℕ) (r : Reader) where
   -- a read within the allowance
@@ -88,6 +89,14 @@ module _ (s : List ℕ) (r : Reader) (w word m : ℕ) (fits : word < 2 ^ 64) (ho
 
     same : skipped (skipped r 1) 1 ≡ skipped r 2
     same = simp (place1, less2)
+
+    -- 11 and a width of 0
+    pub word-none : 2 ^ 63 + 2 ^ 62 ≤ word → w ≡ 0 → updateOf s r w ≡ skip 0 2
+    word-none h none =
+        let k : w - 1 ≡ 0 = omega arith in
+        let v : w - (0 + 1) ≡ 0 = omega arith in
+        sym (update-shrunk s r w a1 (sym (read-within s r 1 (omega arith))) (λ e. omega (arith, first)) go b1 (sym (read-within s (skipped r 1) 1 (omega arith))) go (λ e. omega (arith, second, e)))
+        ∙ ap (λ (t : Reader). shrunk w (findOf s t (w - 1))) same ∙ simp (k, find-none s (skipped r 2), v, add-zero, sub-zero)
 
     module _ (z : ℕ) (lead : z ≡ leadingZeros 64 (word * 2 ^ 2 % 2 ^ 64)) where
       found : z + 3 ≤ m → (bitsAt s (r .place + 2) z ≡ 0) × (bitAt s (r .place + 2 + z) ≡ 1)

@@ -9,6 +9,7 @@ use Rattle.format.specs.Coefficients as coefficients
 use Rattle.bits.specs.declared.BitReader.{BitReader}
 use Rattle.bits.specs.declared.Taken.{Taken}
 use Rattle.bits.specs.declared.Four.{Four}
+use Rattle.bits.specs.declared.Opening.{Opening}
 
 abbrev pub asReader : BitReader → format.Reader
 asReader r = record { place = r .place; remaining = r .remaining; status = r .status }
@@ -41,3 +42,9 @@ pub record SoundFour (s : List ℕ) (t : Four) (most : ℕ) : Type 0 where
 pub record Filled (s : List ℕ) (r t : BitReader) : Type 0 where
   pub same : asReader t ≡ asReader r
   pub bits : t .cache / 2 ^ 7 ≡ bitsAt s (r .place) 57
+
+-- o is the width update of 0 that the word starts with, wherever the word holds all its bits
+pub record Opens (word : ℕ) (o : Opening) : Type 0 where
+  pub few : o .used ≤ 67
+  pub reads : (s : List ℕ) (r : format.Reader) → word / 2 ^ 7 ≡ bitsAt s (r .place) 57 → o .used ≤ 57 → o .used ≤ r .remaining → r .status ≡ 0
+      → format.updateOf s r 0 ≡ record { value = o .width; reader = format.skipped r (o .used) }

@@ -5,7 +5,7 @@ ghost use lib.ListN.{length};
 ghost use Rattle.format.specs.Bits.{bitsAt, zerosAt};
 ghost use Rattle.format.specs.Reader.{startOf, skipped, spent, readOf, unaryOf, findOf, updateSecond, updateOf, runOf, bitLength};
 ghost use Rattle.format.specs.Coefficients.{fourOf};
-ghost use Rattle.bits.specs.View.{asReader, asTaken, asFour, Ready, Sound, SoundFour, Filled};
+ghost use Rattle.bits.specs.View.{asReader, asTaken, asFour, Ready, Sound, SoundFour, Filled, Opens};
 use words::top;
 use words::window;
 
@@ -25,7 +25,7 @@ pub fn less(a: u64, b: u64) -> u64
 }
 
 // The bits that x has.
-fn bit_length(x: u64) -> u64
+pub fn bit_length(x: u64) -> u64
     ensures { λ r. ⌜ (r ≡ bitLength x) × (r ≤ 64) ⌝ }
 {
     64 - (u64::leading_zeros(x) as u64)
@@ -66,7 +66,7 @@ pub struct BitReader {
     pub place: u64,
     pub cache: u64,
     pub remaining: u64,
-    pub status: u8,
+    pub status: u64,
 }
 
 // A value that was read, and the reader after it.
@@ -82,6 +82,29 @@ pub struct Four {
     pub c: u64,
     pub d: u64,
     pub reader: BitReader,
+}
+
+// The width with which a row starts, and the bits that it takes.
+pub struct Opening {
+    pub width: u64,
+    pub used: u64,
+}
+
+// The width update of 0 out of a word.
+fn first_width(word: u64) -> Opening
+    ensures { λ r. ⌜ Opens word r ⌝ }
+{
+    if word < 0x8000_0000_0000_0000 {
+        return Opening { width: 0, used: 1 };
+    }
+    if 0xC000_0000_0000_0000 <= word {
+        return Opening { width: 0, used: 2 };
+    }
+    let z = u64::leading_zeros(word << 2) as u64;
+    Opening {
+        width: z + 1,
+        used: z + 3,
+    }
 }
 
 impl BitReader {
@@ -314,6 +337,25 @@ impl BitReader {
 
     // The width update of 0, with which a row starts.
     pub fn width_start(self, packet: &[u8]) -> Taken
+        requires { ⌜ Ready (now packet) self ⌝ }
+        ensures { λ r. ⌜ asTaken r ≡ updateOf (now (packet .entry)) (asReader self) 0 ⌝ }
+        ensures { λ r. ⌜ Ready (now (packet .entry)) (r .reader) ⌝ }
+    {
+        if self.status != 0 {
+            return self.width_apart(packet);
+        }
+        let o = first_width(window(packet, self.place));
+        if least(self.remaining, 57) < o.used {
+            return self.width_apart(packet);
+        }
+        Taken {
+            value: o.width,
+            reader: self.skip(o.used),
+        }
+    }
+
+    // The same, bit by bit.
+    fn width_apart(self, packet: &[u8]) -> Taken
         requires { ⌜ Ready (now packet) self ⌝ }
         ensures { λ r. ⌜ asTaken r ≡ updateOf (now (packet .entry)) (asReader self) 0 ⌝ }
         ensures { λ r. ⌜ Ready (now (packet .entry)) (r .reader) ⌝ }

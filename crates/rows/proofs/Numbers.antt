@@ -1,10 +1,13 @@
 -- Laws of the numbers of a row. Assumes nothing.
-use borrow.Author.Tests.{eq-eqb, ne-eqb}
+use borrow.Author.Tests.{eq-eqb, ne-eqb, lt-ltb, le-ltb}
 use mathlib.Core.Path.{_≡_, refl, sym}
-use mathlib.Core.Bool.{Bool, true, false, _||_, true≢false}
-use Prim.Native.Nat.{ℕ, zero, suc, _+_, _-_, _*_, _^_, _%_, _<_, _≤_}
+use mathlib.Core.Bool.{Bool, true, false, cond, _||_, true≢false}
+use mathlib.Core.Logic.{⊎-elim}
+use lib.Dec.{ltb}
+use Rattle.format.proofs.BitLaws.{le-or-lt}
+use Prim.Native.Nat.{ℕ, zero, suc, _+_, _-_, _*_, _/_, _^_, _%_, _<_, _≤_}
 use native.Mathlib.Omega.{arith}
-use native.Mathlib.Nat.{mul-le-mul-left, mul-one}
+use native.Mathlib.Nat.{mul-le-mul-left, mul-one, mul-zero}
 use lib.IntN.{ℤ, pos, negsuc, negℤ}
 use lib.Signed.{ltZ}
 use lib.Pow.{shl-exact, pow-pos}
@@ -43,3 +46,15 @@ pub neg-fits : (z : ℤ) → ltZ (pos 0) z ≡ true → SFits w32 z → SFits w3
 neg-fits (pos zero) e f = record { sfits = omega arith }
 neg-fits (pos (suc n)) e f = omega (arith, f .sfits)
 neg-fits (negsuc n) e f = absurd (true≢false (sym e))
+
+-- a product by the first bit of a word
+pub bit-share : (m word : ℕ) → word < 2 ^ 64 → m * (word / 2 ^ 63) ≡ cond (ltb word (2 ^ 63)) 0 m
+bit-share m word fits =
+    ⊎-elim
+    (λ (h : 2 ^ 63 ≤ word).
+    let e : word / 2 ^ 63 ≡ 1 = omega arith in
+    simp (e, mul-one, le-ltb word (2 ^ 63) h))
+    (λ (h : word < 2 ^ 63).
+    let e : word / 2 ^ 63 ≡ 0 = omega arith in
+    simp (e, mul-zero, lt-ltb word (2 ^ 63) h))
+    (le-or-lt (2 ^ 63) word)

@@ -1,16 +1,16 @@
 -- A group of four values out of one word. Assumes nothing.
-use borrow.Author.Tests.{eq-eqb, ne-eqb, lt-leb, lt-ltb, le-ltb}
+use borrow.Author.Tests.{eq-eqb, ne-eqb, le-leb, lt-leb, lt-ltb, le-ltb}
 use mathlib.Core.Path.{_≡_, refl, sym, ap, _∙_}
 use mathlib.Core.Logic.{⊎-elim}
 use mathlib.Core.List.{List, [], _∷_}
 use mathlib.Core.Bool.{Bool, true, false, cond}
-use Prim.Native.Nat.{ℕ, _+_, _-_, _*_, _/_, _%_, _^_, _≤_, _<_, min}
+use Prim.Native.Nat.{ℕ, zero, suc, _+_, _-_, _*_, _/_, _%_, _^_, _≤_, _<_, min}
 use native.Mathlib.Nat.{zero-mul, add-zero, sub-zero, lt-of-lt-of-le}
 use native.Mathlib.Omega.{arith}
 use lib.Count.{leadingZeros}
-use lib.Dec.{eqb, lit≤}
+use lib.Dec.{eqb, ltb, lit≤}
 use lib.Pow.{shr-lt, shl-lt, pow-mono, shr-shr}
-use lib.IntN.{ℤ, pos, negℤ}
+use lib.IntN.{ℤ, pos, negℤ, _-ℤ_, +ℤ-idl, +ℤ-idr}
 use mir.Syntax.{w32}
 use mir.Val.{SFits}
 use Rattle.wrap32.proofs.Laws.{cut-id}
@@ -196,48 +196,50 @@ module _ (s : List ℕ) (r : Reader) (x sel : ℕ) (below : sel < 16) (fits : x 
         let lc = nonzero-le (q .c) in
         simp (sign-first (q .a) a, sign-at (q .b) n1 b (omega arith), sign-at (q .c) n2 c (omega arith), sign-at (q .d) n3 d (omega arith))
 
--- a group out of a word
-module _ (s : List ℕ) (r : Reader) (sel w word g : ℕ) (go : r .status ≡ 0) (fits : word < 2 ^ 64)
-    (holds : word / 2 ^ 7 ≡ bitsAt s (r .place) 57) (some : 1 ≤ w) (most : w ≤ 12) (below : sel < 16) (enough : 57 ≤ r .remaining) (more : 1 < g) where
+-- the width after a group's values, out of a word
+module _ (s : List ℕ) (r : Reader) (w word g : ℕ) where
+  pub next-last : g ≤ 1 → widthNext s g w (skipped r (4 * w)) ≡ record { value = w; reader = skipped r (4 * w) }
+  unfolding widthNext
+  next-last h = simp (le-leb g 1 h)
+
   abbrev word-change : Change
   word-change = changeOf (word * 2 ^ (4 * w) % 2 ^ 64) w
 
-  abbrev word-used : ℕ
-  word-used = 4 * w + word-change .used
-
-  next-width : word-used ≤ 53 → widthNext s g w (skipped r (4 * w)) ≡ record { value = word-change .width; reader = skipped r word-used }
+  pub next-more : r .status ≡ 0 → word / 2 ^ 7 ≡ bitsAt s (r .place) 57 → 1 ≤ w → 1 < g → 4 * w + word-change .used ≤ 57 → 4 * w + word-change .used ≤ r .remaining
+      → widthNext s g w (skipped r (4 * w)) ≡ record { value = word-change .width; reader = skipped r (4 * w + word-change .used) }
   unfolding widthNext
-  next-width room =
+  next-more go holds some more short enough =
       let n = 4 * w in
-      let e = change-update s (skipped r n) w (word * 2 ^ n % 2 ^ 64) (57 - n) (omega arith) (middle-of s (r .place) word n (57 - n) 57 holds (omega arith) (lit≤ tt))
-      (omega arith) (omega arith) go some (omega arith) in
-      let p : r .place + n + word-change .used ≡ r .place + word-used = omega arith in
-      let q : r .remaining - n - word-change .used ≡ r .remaining - word-used = omega arith in
+      let k = word-change .used in
+      let e = change-update s (skipped r n) w (word * 2 ^ n % 2 ^ 64) k (omega arith) (middle-of s (r .place) word n k 57 holds short (lit≤ tt)) (omega arith) (omega arith) go some (omega arith) in
+      let p : r .place + n + k ≡ r .place + (n + k) = omega arith in
+      let q : r .remaining - n - k ≡ r .remaining - (n + k) = omega arith in
       simp (lt-leb g 1 more, e, p, q)
 
+-- a group out of a word, by the width after its values
+module _ (s : List ℕ) (r : Reader) (sel w word g n w′ : ℕ) (fits : word < 2 ^ 64) (holds : word / 2 ^ 7 ≡ bitsAt s (r .place) 57) (most : w ≤ 12) (below : sel < 16)
+    (least : 4 * w ≤ n) (short : n + 4 ≤ 57) (enough : n + 4 ≤ r .remaining) (next : widthNext s g w (skipped r (4 * w)) ≡ record { value = w′; reader = skipped r n }) where
   bits-short : (p : ℕ) → bitsAt s p w < 2 ^ 12
   bits-short p = lt-of-lt-of-le (bits-lt s p w) (pow-mono {j = 12} most)
 
-  pub group-word : word-used ≤ 53
-      → groupOf s sel g (record { value = w; reader = r })
+  pub group-word : groupOf s sel g (record { value = w; reader = r })
       ≡ record {
-        values = quadOf sel word w word-used .a ∷ quadOf sel word w word-used .b ∷ quadOf sel word w word-used .c ∷ quadOf sel word w word-used .d ∷ [];
-        width = word-change .width;
-        reader = skipped r (word-used + quadOf sel word w word-used .used);
+        values = quadOf sel word w n .a ∷ quadOf sel word w n .b ∷ quadOf sel word w n .c ∷ quadOf sel word w n .d ∷ [];
+        width = w′;
+        reader = skipped r (n + quadOf sel word w n .used);
       }
   unfolding groupOf quadOf
-  group-word room =
+  group-word =
       let p = r .place in
-      let n = word-used in
       let r2 = skipped r n in
       let x = word * 2 ^ n % 2 ^ 64 in
       let q : Four = record { a = bitsAt s p w; b = bitsAt s (p + w) w; c = bitsAt s (p + 2 * w) w; d = bitsAt s (p + 3 * w) w; reader = skipped r (4 * w) } in
-      let sq = signs-quad s r2 x sel below (omega arith) (middle-of s p word n 4 57 holds (omega arith) (lit≤ tt)) (omega arith) q
+      let sq = signs-quad s r2 x sel below (omega arith) (middle-of s p word n 4 57 holds short (lit≤ tt)) (omega arith) q
       (bits-short p) (bits-short (p + w)) (bits-short (p + 2 * w)) (bits-short (p + 3 * w)) in
       let k = withSigns sel (record { a = bitsAt s p w; b = bitsAt s (p + w) w; c = bitsAt s (p + 2 * w) w; d = bitsAt s (p + 3 * w) w }) x .used in
       let pl : p + n + k ≡ p + (n + k) = omega arith in
       let rm : r .remaining - n - k ≡ r .remaining - (n + k) = omega arith in
-      simp (four-within s r w (omega arith), next-width room, values-bits s p word w holds most, sq, pl, rm)
+      simp (four-within s r w (omega arith), next, values-bits s p word w holds most, sq, pl, rm)
 
 -- the same number of bits as a value that is shifted
 pub scaled-low : (u half nz : ℕ) → u < 2 ^ 12 → half < 15 → nz ≡ nonzeroOf u
@@ -262,3 +264,26 @@ scaled-low u half nz small h e =
 pub cond-le : (t : Bool) (a b k : ℕ) → a ≤ k → b ≤ k → cond t a b ≤ k
 cond-le true a b k p q = p
 cond-le false a b k p q = q
+
+-- a magnitude under a sign, as a difference
+pub share-difference : (m t word : ℕ) → t ≡ cond (ltb word (2 ^ 63)) 0 m → pos (m - t) -ℤ pos t ≡ signedOf m word
+unfolding signedOf
+share-difference m t word e =
+    ⊎-elim
+    (λ (h : 2 ^ 63 ≤ word).
+    let all : t ≡ m = e ∙ simp (le-ltb word (2 ^ 63) h) in
+    let none : m - m ≡ 0 = omega arith in
+    simp (all, none, le-ltb word (2 ^ 63) h) (+ℤ-idl (negℤ (pos m))))
+    (λ (h : word < 2 ^ 63).
+    let none : t ≡ 0 = e ∙ simp (lt-ltb word (2 ^ 63) h) in
+    simp (none, sub-zero, lt-ltb word (2 ^ 63) h) (+ℤ-idr (pos m)))
+    (le-or-lt (2 ^ 63) word)
+
+neg-fits : (m : ℕ) → m < 2 ^ 31 → SFits w32 (negℤ (pos m))
+neg-fits zero h = record { sfits = omega arith }
+neg-fits (suc m) h = record { sfits = omega arith }
+
+pub signed-fits : (m word : ℕ) → m < 2 ^ 31 → SFits w32 (signedOf m word)
+unfolding signedOf
+signed-fits m word small =
+    ⊎-elim (λ (h : 2 ^ 63 ≤ word). simp (le-ltb word (2 ^ 63) h) (neg-fits m small)) (λ (h : word < 2 ^ 63). simp (lt-ltb word (2 ^ 63) h) (record { sfits = small })) (le-or-lt (2 ^ 63) word)

@@ -1,13 +1,18 @@
--- A group of four values out of one word that holds all its bits: what is read from the word.
+-- A zero run, or a group of four values, out of one word that holds all its bits: what is read from the word.
+use mathlib.Core.Path.{_≡_}
 use mathlib.Core.List.{List}
-use mathlib.Core.Bool.{cond}
+use mathlib.Core.Bool.{Bool, cond}
 use Prim.Native.Nat.{ℕ, _+_, _-_, _*_, _/_, _%_, _^_, _≤_, _<_, min}
 use lib.IntN.{ℤ, pos, negℤ}
 use lib.Signed.{ltZ}
 use lib.ListN.{set}
 use lib.Count.{leadingZeros}
 use lib.Dec.{ltb, eqb}
+use Rattle.format.specs.Bits.{bitsAt}
+use Rattle.format.specs.Reader.{Reader, skipped}
+use Rattle.format.specs.Coefficients.{zerosOf}
 use Rattle.rows.specs.declared.Change.{Change}
+use Rattle.rows.specs.declared.Run.{Run}
 use Rattle.rows.specs.declared.Split.{Split}
 use Rattle.rows.specs.declared.SignBit.{SignBit}
 
@@ -25,6 +30,19 @@ changeOf word w =
       width = cond (ltb word (2 ^ 63)) w (w + cond (ltb word (2 ^ 63 + 2 ^ 62)) (z + 1) 0 - cond (ltb word (2 ^ 63 + 2 ^ 62)) 0 (z + 1));
       used = cond (ltb word (2 ^ 63)) 1 (cond (ltb word (2 ^ 63 + 2 ^ 62)) (z + 3) (min (z + 3) (w + 1)));
     }
+
+-- the width after a group, and the bits of its values and its update; the last group has no update
+abbrev pub stepOf : ℕ → ℕ → Bool → Change
+stepOf word w last =
+    let u = changeOf (word * 2 ^ (4 * w) % 2 ^ 64) w in
+    record { width = u .width; used = 4 * w + cond last 0 (u .used) }
+
+-- h is the zero run that the word starts with, wherever the word holds all its bits
+pub record Runs (word left : ℕ) (h : Run) : Type 0 where
+  pub most : h .groups ≤ left
+  pub few : h .used ≤ 128
+  pub reads : (s : List ℕ) (r : Reader) → word / 2 ^ 7 ≡ bitsAt s (r .place) 57 → h .used ≤ 57 → h .used ≤ r .remaining → r .status ≡ 0
+      → (0 < h .groups) × (zerosOf s left r ≡ record { groups = h .groups; width = h .width; reader = skipped r (h .used) })
 
 -- a short value under a selector
 unfoldable pub scaledOf : ℕ → ℕ → ℕ
@@ -79,9 +97,8 @@ quadOf sel word w used = withSigns sel (splitOf word w) (word * 2 ^ used % 2 ^ 6
 abbrev pub storeQuad : List ℤ → ℕ → Quad → List ℤ
 storeQuad l i q = set (set (set (set l i (q .a)) (i + 1) (q .b)) (i + 2) (q .c)) (i + 3) (q .d)
 
--- what the loop of groups asks of the next one
+-- what the loop of runs and groups asks of the next one
 pub record Near (w out n place end : ℕ) : Type 0 where
-  pub some : 1 ≤ w
   pub short : w ≤ 12
-  pub more : out + 4 < n
+  pub more : out + 4 ≤ n
   pub before : place < end

@@ -5,18 +5,20 @@ ghost use mathlib.Core.List.{List, _++_};
 ghost use Prim.Native.Nat.{_+_, _-_, _*_, _%_, _^_, _<_, _≤_, min};
 ghost use lib.IntN.{ℤ, pos, negℤ};
 ghost use lib.Signed.{ltZ};
-ghost use lib.Dec.{eqb};
+ghost use lib.Dec.{eqb, ltb};
 ghost use lib.ListN.{length, replicate, set};
 ghost use Rattle.format.specs.Coefficients.{valueOf, signOf, signsOf, widthAfter, widthNext, groupOf, zerosOf, stopped, rowOf};
 ghost use Rattle.bits.specs.View.{asReader, asTaken, asFour, Ready};
 ghost use Rattle.rows.specs.View.{asSigned, asSignedFour, asGroup, asRun};
-ghost use Rattle.rows.specs.Word.{signBitOf, changeOf, scaledOf, nonzeroOf, signedOf, splitOf, Narrow, quadOf, storeQuad, Near};
-ghost use Rattle.rows.specs.Course.{stateOf, filled, movedTo, Halted, Onward, Done};
+ghost use Rattle.rows.specs.Word.{signBitOf, changeOf, scaledOf, nonzeroOf, signedOf, splitOf, Narrow, quadOf, storeQuad, Near, Runs, stepOf};
+ghost use Rattle.rows.specs.Course.{stateOf, filled, movedTo, Halted, Clean, Onward, Done};
 use bits::BitReader;
 use bits::Four;
 use bits::Taken;
+use bits::bit_length;
 use bits::least;
 use bits::less;
+use words::top;
 use words::whole;
 use wrap32::cut32;
 
@@ -338,22 +340,20 @@ fn plus(m: u64) -> i32
     m as i32
 }
 
-// And as one below or at 0.
-fn opposite(m: u64) -> i32
-    requires { ⌜ m < 2 ^ 31 ⌝ }
-    ensures { λ r. ⌜ r ≡ negℤ (pos m) ⌝ }
+// A magnitude where the first bit of a word is 1, else 0.
+fn share(m: u64, word: u64) -> u64
+    ensures { λ r. ⌜ (r ≡ cond (ltb word (2 ^ 63)) 0 m) × (r ≤ m) ⌝ }
 {
-    -(m as i32)
+    m * (word >> 63)
 }
 
-// A magnitude under the first bit of a word.
+// A magnitude under the first bit of a word, without a branch.
 fn with_bit(m: u64, word: u64) -> i32
     requires { ⌜ m < 2 ^ 31 ⌝ }
     ensures { λ r. ⌜ r ≡ signedOf m word ⌝ }
 {
-    let p = plus(m);
-    let q = opposite(m);
-    if word < 0x8000_0000_0000_0000 { p } else { q }
+    let t = share(m, word);
+    plus(m - t) - plus(t)
 }
 
 // A short value under a selector above 0.
@@ -440,73 +440,136 @@ pub struct Next {
     pub reader: BitReader,
 }
 
-// The place before which a word stands whole in the packet and in the allowance.
-fn limit(reader: BitReader, packet: &[u8]) -> u64
-    requires { ⌜ Ready (now packet) reader ⌝ }
-    ensures { λ r. ⌜ (r ≤ reader .place + reader .remaining - 72) × (r ≤ length (now (packet .entry)) * 8 - 72) ⌝ }
+// The place before which a word stands whole in the packet.
+fn edge(packet: &[u8]) -> u64
+    ensures { λ r. ⌜ r ≤ length (now (packet .entry)) * 8 - 63 ⌝ }
 {
-    let bytes = least(packet.len() as u64, 0x100_0000_0000);
-    less(least(reader.place + reader.remaining, bytes * 8), 72)
+    less(least(packet.len() as u64, 0x100_0000_0000) * 8, 63)
 }
 
-// Whether the next group is not the row's last and stands whole in a word, if its update is short.
+// Whether a word is there to take a run or a short group of four columns from.
 fn near(width: u64, out: usize, n: usize, place: u64, end: u64) -> bool
     requires { ⌜ out < 2 ^ 33 ⌝ }
     ensures { λ r. ⌜ (r ≡ true → Near width out n place end) ⌝ }
 {
-    if width < 1 {
-        return false;
-    }
     if 12 < width {
         return false;
     }
-    if n <= out + 4 {
+    if n < out + 4 {
         return false;
     }
     place < end
 }
 
-// A reader further on in its allowance.
-fn moved(reader: BitReader, place: u64) -> BitReader
-    requires { ⌜ (reader .place ≤ place) × (place ≤ reader .place + reader .remaining) × (reader .place + reader .remaining < 2 ^ 40) ⌝ }
-    ensures { λ r. ⌜ asReader r ≡ movedTo (asReader reader) place ⌝ }
+// Whether so many bits are more than a word holds, or more than are left up to a place.
+fn over(place: u64, used: u64, stop: u64) -> bool
+    requires { ⌜ (place < 2 ^ 40) × (used < 2 ^ 40) ⌝ }
+    ensures { λ r. ⌜ (r ≡ false → (used ≤ 57) × (place + used ≤ stop)) ⌝ }
 {
-    reader.skip(place - reader.place)
+    if 57 < used {
+        return true;
+    }
+    stop < place + used
 }
 
-// Groups out of single words, as long as each stands whole in its word and is not the row's last; selector 0.
+// A zero run and the width after it, and the bits that they take.
+pub struct Run {
+    pub groups: u64,
+    pub width: u64,
+    pub used: u64,
+}
+
+// A zero run out of a word, where `left` groups are left.
+fn run_word(word: u64, left: u64) -> Run
+    requires { ⌜ (0 < left) × (left < 2 ^ 31) ⌝ }
+    ensures { λ r. ⌜ Runs word left r ⌝ }
+{
+    let most = bit_length(left - 1);
+    if top(word, most) == 0 {
+        return Run {
+            groups: left,
+            width: 0,
+            used: most,
+        };
+    }
+    let z = u64::leading_zeros(word) as u64;
+    let v = (word << z) >> (63 - z);
+    if left <= v {
+        return Run {
+            groups: left,
+            width: 0,
+            used: 2 * z + 1,
+        };
+    }
+    let u = u64::leading_zeros(word << (2 * z + 1)) as u64;
+    Run {
+        groups: v,
+        width: u + 1,
+        used: 2 * z + u + 2,
+    }
+}
+
+// The width after a group, and the bits of its values and its update, out of a word; the last group of a row has no update.
+fn step(word: u64, width: u64, last: bool) -> Change
+    requires { ⌜ width ≤ 12 ⌝ }
+    ensures { λ r. ⌜ r ≡ stepOf word width last ⌝ }
+    ensures { λ r. ⌜ r .used ≤ 115 ⌝ }
+{
+    let u = changed(word << (4 * width), width);
+    Change {
+        width: u.width,
+        used: 4 * width + pick(last, 0, u.used),
+    }
+}
+
+// A point of a row, with the reader that has come to it.
+fn arrived(reader: BitReader, place: u64, width: u64, out: usize) -> Next
+    requires { ⌜ (reader .place ≤ place) × (place ≤ reader .place + reader .remaining) × (reader .place + reader .remaining < 2 ^ 40) ⌝ }
+    ensures { λ r. ⌜ (r .out ≡ out) × (r .width ≡ width) × (asReader (r .reader) ≡ movedTo (asReader reader) place) ⌝ }
+{
+    Next {
+        out,
+        width,
+        reader: reader.skip(place - reader.place),
+    }
+}
+
+// Runs and groups out of single words, as long as each stands whole in its word; selector 0. The rest of the row is 0 already.
 fn fast(reader: BitReader, packet: &[u8], width: u64, dst: &mut [i32], out: usize) -> Next
     requires { ⌜ Ready (now packet) reader ⌝ }
     requires { ⌜ (reader .status ≡ 0) × (length (now dst) < 2 ^ 32) × (out < length (now dst)) ⌝ }
-    ensures { λ r. ⌜ Onward (now (packet .entry)) 0 (now (dst .entry)) out (stateOf width reader) (now (dst .exit)) (r .out) (stateOf (r .width) (r .reader)) ⌝ }
+    requires { ⌜ Clean (now dst) out ⌝ }
+    ensures { λ r. ⌜ Onward (now (packet .entry)) (0) (now (dst .entry)) out (stateOf width reader) (now (dst .exit)) (r .out) (stateOf (r .width) (r .reader)) ⌝ }
     ensures { λ r. ⌜ Done (now (packet .entry)) (length (now (dst .entry))) out width (r .out) (r .width) (r .reader) ⌝ }
 {
     let n = dst.len();
-    let end = limit(reader, packet);
+    let end = edge(packet);
+    let stop = reader.place + reader.remaining;
     let mut place = reader.place;
     let mut w = width;
     let mut i = out;
     while near(w, i, n, place, end) {
         let word = whole(packet, place);
-        let u = changed(word << (4 * w), w);
-        let used = 4 * w + u.used;
-        if 53 < used {
-            return Next {
-                out: i,
-                width: w,
-                reader: moved(reader, place),
-            };
+        if w == 0 {
+            let h = run_word(word, ((n - i + 3) / 4) as u64);
+            if over(place, h.used, stop) {
+                return arrived(reader, place, w, i);
+            }
+            i = i + 4 * (h.groups as usize);
+            w = h.width;
+            place = place + h.used;
+        } else {
+            let u = step(word, w, n <= i + 4);
+            if over(place, u.used + 4, stop) {
+                return arrived(reader, place, w, i);
+            }
+            let signs = quad(dst, i, word, w, u.used);
+            place = place + u.used + signs;
+            w = u.width;
+            i += 4;
         }
-        let signs = quad(dst, i, word, w, used);
-        place = place + used + signs;
-        w = u.width;
-        i += 4;
     }
-    Next {
-        out: i,
-        width: w,
-        reader: moved(reader, place),
-    }
+    arrived(reader, place, w, i)
 }
 
 // The same under the selector half + 1.
@@ -520,35 +583,38 @@ fn fast_scaled(
 ) -> Next
     requires { ⌜ Ready (now packet) reader ⌝ }
     requires { ⌜ (reader .status ≡ 0) × (length (now dst) < 2 ^ 32) × (out < length (now dst)) × (half < 15) ⌝ }
+    requires { ⌜ Clean (now dst) out ⌝ }
     ensures { λ r. ⌜ Onward (now (packet .entry)) (half + 1) (now (dst .entry)) out (stateOf width reader) (now (dst .exit)) (r .out) (stateOf (r .width) (r .reader)) ⌝ }
     ensures { λ r. ⌜ Done (now (packet .entry)) (length (now (dst .entry))) out width (r .out) (r .width) (r .reader) ⌝ }
 {
     let n = dst.len();
-    let end = limit(reader, packet);
+    let end = edge(packet);
+    let stop = reader.place + reader.remaining;
     let mut place = reader.place;
     let mut w = width;
     let mut i = out;
     while near(w, i, n, place, end) {
         let word = whole(packet, place);
-        let u = changed(word << (4 * w), w);
-        let used = 4 * w + u.used;
-        if 53 < used {
-            return Next {
-                out: i,
-                width: w,
-                reader: moved(reader, place),
-            };
+        if w == 0 {
+            let h = run_word(word, ((n - i + 3) / 4) as u64);
+            if over(place, h.used, stop) {
+                return arrived(reader, place, w, i);
+            }
+            i = i + 4 * (h.groups as usize);
+            w = h.width;
+            place = place + h.used;
+        } else {
+            let u = step(word, w, n <= i + 4);
+            if over(place, u.used + 4, stop) {
+                return arrived(reader, place, w, i);
+            }
+            let signs = quad_scaled(dst, i, word, w, u.used, half);
+            place = place + u.used + signs;
+            w = u.width;
+            i += 4;
         }
-        let signs = quad_scaled(dst, i, word, w, used, half);
-        place = place + used + signs;
-        w = u.width;
-        i += 4;
     }
-    Next {
-        out: i,
-        width: w,
-        reader: moved(reader, place),
-    }
+    arrived(reader, place, w, i)
 }
 
 // The same under any selector.
@@ -562,6 +628,7 @@ fn quick(
 ) -> Next
     requires { ⌜ Ready (now packet) reader ⌝ }
     requires { ⌜ (reader .status ≡ 0) × (length (now dst) < 2 ^ 32) × (out < length (now dst)) × (selector < 16) ⌝ }
+    requires { ⌜ Clean (now dst) out ⌝ }
     ensures { λ r. ⌜ Onward (now (packet .entry)) selector (now (dst .entry)) out (stateOf width reader) (now (dst .exit)) (r .out) (stateOf (r .width) (r .reader)) ⌝ }
     ensures { λ r. ⌜ Done (now (packet .entry)) (length (now (dst .entry))) out width (r .out) (r .width) (r .reader) ⌝ }
 {
@@ -571,8 +638,8 @@ fn quick(
     fast_scaled(reader, packet, width, selector - 1, dst, out)
 }
 
-// Groups of four values: those out of single words, then one as it is read.
-fn groups(
+// One run or group as it is read. The rest of the row is 0 already.
+fn plain(
     reader: BitReader,
     packet: &[u8],
     width: u64,
@@ -581,28 +648,28 @@ fn groups(
     out: usize,
 ) -> Next
     requires { ⌜ Ready (now packet) reader ⌝ }
-    requires { ⌜ (reader .status ≡ 0) × (length (now dst) < 2 ^ 32) × (out < length (now dst)) × (selector < 16) × (1 ≤ width) × (width ≤ 19) ⌝ }
+    requires { ⌜ (reader .status ≡ 0) × (length (now dst) < 2 ^ 32) × (out < length (now dst)) × (selector < 16) × (width ≤ 19) ⌝ }
+    requires { ⌜ Clean (now dst) out ⌝ }
     ensures { λ r. ⌜ Onward (now (packet .entry)) selector (now (dst .entry)) out (stateOf width reader) (now (dst .exit)) (r .out) (stateOf (r .width) (r .reader)) ⌝ }
     ensures { λ r. ⌜ (out < r .out) × (r .out < length (now (dst .entry)) + 4) × Ready (now (packet .entry)) (r .reader) ⌝ }
 {
-    let f = quick(reader, packet, width, selector, dst, out);
-    let at = f.out;
-    let w = f.width;
-    let r = f.reader;
-    if w == 0 {
-        return f;
+    let left = (dst.len() - out + 3) / 4;
+    if width == 0 {
+        let run = zeros(reader, packet, left as u64);
+        let after = run.reader;
+        return Next {
+            out: out + 4 * (run.groups as usize),
+            width: run.width,
+            reader: after,
+        };
     }
-    if 19 < w {
-        return f;
-    }
-    let left = (dst.len() - at + 3) / 4;
-    let q = group(r, packet, w, selector, left as u64);
-    put4(dst, at, q.a, q.b, q.c, q.d);
-    let rq = q.reader;
+    let q = group(reader, packet, width, selector, left as u64);
+    put4(dst, out, q.a, q.b, q.c, q.d);
+    let after = q.reader;
     Next {
-        out: at + 4,
+        out: out + 4,
         width: q.width,
-        reader: rq,
+        reader: after,
     }
 }
 
@@ -630,28 +697,27 @@ pub fn decode_component(
     ensures { λ r. ⌜ Ready (now (packet .entry)) r ⌝ }
 {
     let n = dst.len();
+    clear(dst, 0, n);
     let first = reader.width_start(packet);
     let mut r = first.reader;
     let mut width = first.value;
     let mut out: usize = 0;
     while out < n {
-        let left = (n - out + 3) / 4;
         if halts(r, width) {
-            clear(dst, out, 4 * left);
             return stop(r);
         }
-        if width == 0 {
-            let run = zeros(r, packet, left as u64);
-            let count = 4 * (run.groups as usize);
-            clear(dst, out, count);
-            r = run.reader;
-            width = run.width;
-            out += count;
-        } else {
-            let next = groups(r, packet, width, selector, dst, out);
-            r = next.reader;
-            width = next.width;
-            out = next.out;
+        let far = quick(r, packet, width, selector, dst, out);
+        r = far.reader;
+        width = far.width;
+        out = far.out;
+        if out < n {
+            if halts(r, width) {
+                return stop(r);
+            }
+            let one = plain(r, packet, width, selector, dst, out);
+            r = one.reader;
+            width = one.width;
+            out = one.out;
         }
     }
     r

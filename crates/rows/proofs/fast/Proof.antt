@@ -1,98 +1,144 @@
 -- `fast` meets its contract. Assumes nothing.
+use borrow.Author.Needs.{needs}
 use native.Mathlib.Omega.{arith}
-use mathlib.Core.Path.{refl}
-use Prim.Native.Nat.{_-_}
+use Prim.Native.Nat.{_+_, _-_, _*_, _<_}
 use lib.ListN.{length}
-use Rattle.rows.proofs.Steps.{Turn, turn-first, turn-next, turn-last}
+use Rattle.rows.proofs.Steps.{Turn, turn-first, turn-group, turn-run, turn-last}
 use Rattle.rows.proofs.fast.Statement.{statement}
 use Rattle.rows.proofs.fast.Tie as tie
 
 abbrev Inv-loop : tie.InvT-loop
-Inv-loop reader packet width dst₀ out n end place₀ w₀ i₀ dst place w i = Turn packet 0 dst₀ out width reader dst place w i
+Inv-loop reader packet width dst₀ out n end stop place₀ w₀ i₀ dst place w i = Turn packet 0 dst₀ out width reader dst place w i
 
 abbrev μ-loop : tie.MeasureT-loop
-μ-loop reader packet width dst₀ out n end place₀ w₀ i₀ dst place w i = length dst₀ - i
+μ-loop reader packet width dst₀ out n end stop place₀ w₀ i₀ dst place w i = length dst₀ - i
 
-limit-requires : tie.Need-limit-requires Inv-loop μ-loop
-limit-requires c κs = c .before .pre .0
+add-stop : tie.Need-add-stop Inv-loop μ-loop
+add-stop c = omega (arith, c .before .before .before .pre .0 .room)
 
 loop-holds : tie.Need-loop-holds Inv-loop μ-loop
 loop-holds c =
-    let a = c .before .before .args in
-    turn-first (a .packet .now) 0 (a .dst .now) (a .out) (a .width) (a .reader) (c .before .before .pre .0) (c .before .before .pre .1 .0) (omega arith)
+    let a = c .before .before .before .args in
+    turn-first (a .packet .now) 0 (a .dst .now) (a .out) (a .width) (a .reader) (c .before .before .before .pre .0) (c .before .before .before .pre .1 .0 .0) (omega arith) (c .before .before .before .pre .1 .1)
 
 near-requires : tie.Need-near-requires Inv-loop μ-loop
-near-requires c κs = omega (arith, c .loop .inv .inside)
+near-requires c κs = omega (arith, c .loop .inv .inside, c .before .before .before .before .pre .1 .0)
 
 whole-requires : tie.Need-whole-requires Inv-loop μ-loop
-whole-requires c κs = omega (arith, (c .before .near .ensures (c .if1 .taken)), c .before .before .before .limit .ensures .1)
+whole-requires c κs = omega (arith, (c .before .near .ensures (c .if1 .taken)), c .before .before .before .before .edge .ensures)
 
-mul-changed : tie.Need-mul-changed Inv-loop μ-loop
-mul-changed c = omega (arith, (c .before .before .near .ensures (c .before .if1 .taken)))
+sub-run-word : tie.Need-sub-run-word Inv-loop μ-loop
+sub-run-word c = omega (arith, (c .before .before .before .near .ensures (c .before .before .if1 .taken)))
 
-shl-changed : tie.Need-shl-changed Inv-loop μ-loop
-shl-changed c = omega (arith, (c .before .before .near .ensures (c .before .if1 .taken)))
+add-run-word : tie.Need-add-run-word Inv-loop μ-loop
+add-run-word c = omega (arith, c .before .before .before .before .before .before .before .before .pre .1 .0)
 
-changed-requires : tie.Need-changed-requires Inv-loop μ-loop
-changed-requires c κs = omega (arith, (c .before .before .near .ensures (c .before .if1 .taken)))
+run-word-requires : tie.Need-run-word-requires Inv-loop μ-loop
+run-word-requires c κs = omega (arith, (c .before .before .before .near .ensures (c .before .before .if1 .taken)), c .before .before .before .before .before .before .before .before .pre .1 .0)
 
-mul-used : tie.Need-mul-used Inv-loop μ-loop
-mul-used c = omega (arith, (c .before .before .before .near .ensures (c .before .before .if1 .taken)))
+over-requires : tie.Need-over-requires Inv-loop μ-loop
+over-requires c κs = omega (arith, c .before .before .before .before .before .loop .inv .to, c .before .before .before .before .before .before .before .before .before .pre .0 .room, c .run-word .ensures .few)
 
-add-used : tie.Need-add-used Inv-loop μ-loop
-add-used c = omega (arith, (c .before .before .before .before .near .ensures (c .before .before .before .if1 .taken)), c .before .changed .ensures .1)
-
-moved-requires : tie.Need-moved-requires Inv-loop μ-loop
-moved-requires c κs =
-    let t = c .before .before .before .before .before .before .loop .inv in
-    (t .from, t .to, c .before .before .before .before .before .before .before .before .before .pre .0 .room)
+arrived-requires : tie.Need-arrived-requires Inv-loop μ-loop
+arrived-requires c κs =
+    let t = c .before .before .before .before .before .before .before .loop .inv in
+    (t .from, t .to, c .before .before .before .before .before .before .before .before .before .before .before .pre .0 .room)
 
 same-length : tie.Need-same-length Inv-loop μ-loop
-same-length c = c .before .before .before .before .before .before .before .loop .inv .on .same
+same-length c = c .before .before .before .before .before .before .before .before .loop .inv .on .same
 
 returns : tie.Need-returns Inv-loop μ-loop
 returns c =
-    let a = c .before .before .before .before .before .before .before .before .before .before .args in
-    let l = c .before .before .before .before .before .before .before .loop in
-    turn-last (a .packet .now) 0 (a .dst .now) (a .out) (a .width) (a .reader) (c .before .before .before .before .before .before .before .before .before .before .pre .0) (c .before .before .before .before .before .before .before .before .before .before .pre .1 .0) (l .dst) (l .place) (l .w) (l .i) (l .inv) (c .moved .result) (c .moved .ensures)
+    let a = c .before .before .before .before .before .before .before .before .before .before .before .before .args in
+    let l = c .before .before .before .before .before .before .before .before .loop in
+    turn-last (a .packet .now) 0 (a .dst .now) (a .out) (a .width) (a .reader) (c .before .before .before .before .before .before .before .before .before .before .before .before .pre .0) (c .before .before .before .before .before .before .before .before .before .before .before .before .pre .1 .0 .0) (l .dst) (l .place) (l .w) (l .i) (l .inv) (c .arrived .result) (c .arrived .ensures)
 
-quad-requires : tie.Need-quad-requires Inv-loop μ-loop
-quad-requires c κs = omega (arith, (c .before .before .before .before .before .before .near .ensures (c .before .before .before .before .before .if1 .taken)), c .before .before .before .before .before .before .before .loop .inv .on .same, c .before .if2 .left)
-
-add-place : tie.Need-add-place Inv-loop μ-loop
-add-place c = omega (arith, (c .before .before .before .before .before .before .before .before .near .ensures (c .before .before .before .before .before .before .before .if1 .taken)), c .before .before .before .before .before .before .before .before .before .before .limit .ensures .0, c .before .before .before .before .before .before .before .before .before .before .before .before .pre .0 .room, c .before .before .before .if2 .left)
-
-add-place-2 : tie.Need-add-place-2 Inv-loop μ-loop
-add-place-2 c = omega (arith, (c .before .before .before .before .before .before .before .before .near .ensures (c .before .before .before .before .before .before .before .if1 .taken)), c .before .before .before .before .before .before .before .before .before .before .limit .ensures .0, c .before .before .before .before .before .before .before .before .before .before .before .before .pre .0 .room, c .before .before .before .if2 .left, c .before .quad .ensures .1 .1)
+mul-i : tie.Need-mul-i Inv-loop μ-loop
+mul-i c = omega (arith, c .before .before .run-word .ensures .most, c .before .before .before .before .before .before .before .before .before .before .before .pre .1 .0)
 
 add-i : tie.Need-add-i Inv-loop μ-loop
-add-i c = omega (arith, c .before .before .before .before .before .before .before .before .before .loop .inv .inside, c .before .before .before .before .before .before .before .before .before .before .before .before .pre .1 .1)
+add-i c = omega (arith, c .before .before .run-word .ensures .most, c .before .before .before .before .before .before .before .loop .inv .inside, c .before .before .before .before .before .before .before .before .before .before .before .pre .1 .0)
+
+add-place : tie.Need-add-place Inv-loop μ-loop
+add-place c = omega (arith, c .before .before .before .before .before .before .before .before .loop .inv .to, c .before .before .before .before .before .before .before .before .before .before .before .before .pre .0 .room, c .before .before .before .run-word .ensures .few)
+
+-- the turn of a run
+ran : (c : tie.After-struct-known2 Inv-loop μ-loop) → (0 < c .before .before .before .run-word .result .groups)
+    × Turn (c .before .before .before .before .before .before .before .before .before .before .before .before .args .packet .now) 0 (c .before .before .before .before .before .before .before .before .before .before .before .before .args .dst .now) (c .before .before .before .before .before .before .before .before .before .before .before .before .args .out) (c .before .before .before .before .before .before .before .before .before .before .before .before .args .width) (c .before .before .before .before .before .before .before .before .before .before .before .before .args .reader) (c .before .before .before .before .before .before .before .before .loop .dst) (c .before .before .before .before .before .before .before .before .loop .place + c .before .before .before .run-word .result .used) (c .before .before .before .run-word .result .width) (c .before .before .before .before .before .before .before .before .loop .i + 4 * c .before .before .before .run-word .result .groups)
+ran c =
+    let a = c .before .before .before .before .before .before .before .before .before .before .before .before .args in
+    let l = c .before .before .before .before .before .before .before .before .loop in
+    turn-run (a .packet .now) 0 (a .dst .now) (a .out) (a .width) (a .reader) (c .before .before .before .before .before .before .before .before .before .before .before .before .pre .0) (c .before .before .before .before .before .before .before .before .before .before .before .before .pre .1 .0 .0) (l .dst) (l .place) (l .w) (l .i) (l .inv) (c .before .before .before .before .before .whole .result) (omega arith) (c .before .before .before .before .before .whole .ensures) ((c .before .before .before .before .before .before .before .near .ensures (c .before .before .before .before .before .before .if1 .taken)) .more)
+    (c .before .before .before .before .if2 .taken) (c .before .before .before .run-word .result) (c .before .before .before .run-word .ensures) (c .before .before .over .ensures (c .before .if3 .left))
 
 loop-less : tie.Need-loop-less Inv-loop μ-loop
-loop-less c = omega (arith, (c .before .before .before .before .before .before .before .before .near .ensures (c .before .before .before .before .before .before .before .if1 .taken)))
+loop-less c = omega (arith, ran c .0, (c .before .before .before .before .before .before .before .near .ensures (c .before .before .before .before .before .before .if1 .taken)))
 
 loop-again : tie.Need-loop-again Inv-loop μ-loop
-loop-again c =
-    let a = c .before .before .before .before .before .before .before .before .before .before .before .before .args in
-    let l = c .before .before .before .before .before .before .before .before .before .loop in
-    let v = c .before .quad in
-    turn-next (a .packet .now) 0 (a .dst .now) (a .out) (a .width) (a .reader) (c .before .before .before .before .before .before .before .before .before .before .before .before .pre .0) (c .before .before .before .before .before .before .before .before .before .before .before .before .pre .1 .0) (l .dst) (l .place) (l .w) (l .i) (l .inv)
-    (length (a .dst .now)) (c .before .before .before .before .before .before .before .before .before .before .limit .result) (c .before .before .before .before .before .before .whole .result) refl (c .before .before .before .before .before .before .before .before .near .ensures (c .before .before .before .before .before .before .before .if1 .taken)) (c .before .before .before .before .before .before .before .before .before .before .limit .ensures .0) (omega arith) (c .before .before .before .before .before .before .whole .ensures) (omega arith)
-    (c .before .before .before .before .before .changed .result) (c .before .before .before .before .before .changed .ensures .0) (omega (arith, c .before .before .before .if2 .left)) (v .last .0) (v .result) (v .ensures .0) (v .ensures .1 .0) (v .ensures .1 .1)
+loop-again c = ran c .1
 
-moved-requires-2 : tie.Need-moved-requires-2 Inv-loop μ-loop
-moved-requires-2 c κs =
-    let t = c .before .before .loop .inv in
-    (t .from, t .to, c .before .before .before .before .before .pre .0 .room)
+add-step : tie.Need-add-step Inv-loop μ-loop
+add-step c = omega (arith, c .before .before .before .before .loop .inv .inside, c .before .before .before .before .before .before .before .before .pre .1 .0)
+
+step-requires : tie.Need-step-requires Inv-loop μ-loop
+step-requires c κs = omega (arith, (c .before .before .before .near .ensures (c .before .before .if1 .taken)))
+
+add-over : tie.Need-add-over Inv-loop μ-loop
+add-over c = omega (arith, c .before .step .ensures .1)
+
+over-requires-2 : tie.Need-over-requires-2 Inv-loop μ-loop
+over-requires-2 c κs = omega (arith, c .before .before .before .before .before .before .loop .inv .to, c .before .before .before .before .before .before .before .before .before .before .pre .0 .room, c .before .step .ensures .1)
+
+arrived-requires-2 : tie.Need-arrived-requires-2 Inv-loop μ-loop
+arrived-requires-2 c κs =
+    let t = c .before .before .before .before .before .before .before .before .loop .inv in
+    (t .from, t .to, c .before .before .before .before .before .before .before .before .before .before .before .before .pre .0 .room)
 
 same-length-2 : tie.Need-same-length-2 Inv-loop μ-loop
-same-length-2 c = c .before .before .before .loop .inv .on .same
+same-length-2 c = c .before .before .before .before .before .before .before .before .before .loop .inv .on .same
 
 returns-2 : tie.Need-returns-2 Inv-loop μ-loop
 returns-2 c =
-    let a = c .before .before .before .before .before .before .args in
+    let a = c .before .before .before .before .before .before .before .before .before .before .before .before .before .args in
+    let l = c .before .before .before .before .before .before .before .before .before .loop in
+    turn-last (a .packet .now) 0 (a .dst .now) (a .out) (a .width) (a .reader) (c .before .before .before .before .before .before .before .before .before .before .before .before .before .pre .0) (c .before .before .before .before .before .before .before .before .before .before .before .before .before .pre .1 .0 .0) (l .dst) (l .place) (l .w) (l .i) (l .inv) (c .arrived2 .result) (c .arrived2 .ensures)
+
+quad-requires : tie.Need-quad-requires Inv-loop μ-loop
+quad-requires c κs = omega (arith, (c .before .before .before .before .before .before .before .before .near .ensures (c .before .before .before .before .before .before .before .if1 .taken)), c .before .before .before .before .before .before .before .before .before .loop .inv .on .same, c .before .before .before .before .before .if2 .left, c .before .before .over2 .ensures (c .before .if4 .left), c .before .before .before .before .before .before .before .before .before .before .before .before .before .pre .1 .0)
+
+add-place-2 : tie.Need-add-place-2 Inv-loop μ-loop
+add-place-2 c = omega (arith, c .before .before .before .before .before .before .before .before .before .before .before .before .loop .inv .to, c .before .before .before .before .before .before .before .before .before .before .before .before .before .before .before .before .pre .0 .room, c .before .before .before .before .before .before .before .step .ensures .1)
+
+add-place-3 : tie.Need-add-place-3 Inv-loop μ-loop
+add-place-3 c = omega (arith, c .before .before .before .before .before .before .before .before .before .before .before .before .loop .inv .to, c .before .before .before .before .before .before .before .before .before .before .before .before .before .before .before .before .pre .0 .room, c .before .before .before .before .before .before .before .step .ensures .1, c .before .before .quad .ensures .1 .1)
+
+add-i-2 : tie.Need-add-i-2 Inv-loop μ-loop
+add-i-2 c = omega (arith, c .before .before .before .before .before .before .before .before .before .before .before .before .loop .inv .inside, c .before .before .before .before .before .before .before .before .before .before .before .before .before .before .before .before .pre .1 .0)
+
+loop-less-2 : tie.Need-loop-less-2 Inv-loop μ-loop
+loop-less-2 c = omega (arith, (c .before .before .before .before .before .before .before .before .before .before .before .near .ensures (c .before .before .before .before .before .before .before .before .before .before .if1 .taken)))
+
+loop-again-2 : tie.Need-loop-again-2 Inv-loop μ-loop
+loop-again-2 c =
+    let a = c .before .before .before .before .before .before .before .before .before .before .before .before .before .before .before .before .args in
+    let l = c .before .before .before .before .before .before .before .before .before .before .before .before .loop in
+    let v = c .before .before .quad in
+    turn-group (a .packet .now) 0 (a .dst .now) (a .out) (a .width) (a .reader) (c .before .before .before .before .before .before .before .before .before .before .before .before .before .before .before .before .pre .0) (c .before .before .before .before .before .before .before .before .before .before .before .before .before .before .before .before .pre .1 .0 .0) (l .dst) (l .place) (l .w) (l .i) (l .inv) (c .before .before .before .before .before .before .before .before .before .whole .result) (omega arith) (c .before .before .before .before .before .before .before .before .before .whole .ensures) ((c .before .before .before .before .before .before .before .before .before .before .before .near .ensures (c .before .before .before .before .before .before .before .before .before .before .if1 .taken)) .more)
+    (omega (arith, c .before .before .before .before .before .before .before .before .if2 .left)) ((c .before .before .before .before .before .before .before .before .before .before .before .near .ensures (c .before .before .before .before .before .before .before .before .before .before .if1 .taken)) .short) (omega (arith, c .before .before .before .before .before .before .before .before .before .before .before .before .before .before .before .before .pre .1 .0)) (c .before .before .before .before .before .before .before .step .result) (c .before .before .before .before .before .before .before .step .ensures .0) (c .before .before .before .before .before .over2 .ensures (c .before .before .before .before .if4 .left)) (v .last .0) (v .result) (v .ensures .0) (v .ensures .1 .0) (v .ensures .1 .1)
+
+arrived-requires-3 : tie.Need-arrived-requires-3 Inv-loop μ-loop
+arrived-requires-3 c κs =
+    let t = c .before .before .loop .inv in
+    (t .from, t .to, c .before .before .before .before .before .before .pre .0 .room)
+
+same-length-3 : tie.Need-same-length-3 Inv-loop μ-loop
+same-length-3 c = c .before .before .before .loop .inv .on .same
+
+returns-3 : tie.Need-returns-3 Inv-loop μ-loop
+returns-3 c =
+    let a = c .before .before .before .before .before .before .before .args in
     let l = c .before .before .before .loop in
-    turn-last (a .packet .now) 0 (a .dst .now) (a .out) (a .width) (a .reader) (c .before .before .before .before .before .before .pre .0) (c .before .before .before .before .before .before .pre .1 .0) (l .dst) (l .place) (l .w) (l .i) (l .inv) (c .moved2 .result) (c .moved2 .ensures)
+    turn-last (a .packet .now) 0 (a .dst .now) (a .out) (a .width) (a .reader) (c .before .before .before .before .before .before .before .pre .0) (c .before .before .before .before .before .before .before .pre .1 .0 .0) (l .dst) (l .place) (l .w) (l .i) (l .inv) (c .arrived3 .result) (c .arrived3 .ensures)
 
 pub fast-spec : {M : Type 1} → statement M
 fast-spec =
@@ -100,24 +146,36 @@ fast-spec =
     (tie.spec
     Inv-loop
     μ-loop
-    limit-requires
+    (λ c κs. search needs)
+    add-stop
     loop-holds
     near-requires
     whole-requires
-    mul-changed
-    shl-changed
-    changed-requires
-    mul-used
-    add-used
-    moved-requires
+    sub-run-word
+    add-run-word
+    run-word-requires
+    over-requires
+    arrived-requires
     same-length
     returns
-    quad-requires
-    add-place
-    add-place-2
+    mul-i
     add-i
+    add-place
     loop-less
     loop-again
-    moved-requires-2
+    add-step
+    step-requires
+    add-over
+    over-requires-2
+    arrived-requires-2
     same-length-2
-    returns-2)
+    returns-2
+    quad-requires
+    add-place-2
+    add-place-3
+    add-i-2
+    loop-less-2
+    loop-again-2
+    arrived-requires-3
+    same-length-3
+    returns-3)

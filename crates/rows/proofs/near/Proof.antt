@@ -4,6 +4,8 @@ use mathlib.Core.Bool.{true≢false}
 use mathlib.Core.Path.{sym}
 use Rattle.rows.proofs.near.Statement.{statement}
 use Rattle.rows.proofs.near.Tie as tie
+use Rattle.rows.proofs.near.Reads as reads
+use Rattle.rows.proofs.near.Lts as lts
 
 returns : tie.Need-returns
 returns c = λ e. absurd (true≢false (sym e))
@@ -11,15 +13,11 @@ returns c = λ e. absurd (true≢false (sym e))
 returns-2 : tie.Need-returns-2
 returns-2 c = λ e. absurd (true≢false (sym e))
 
-returns-3 : tie.Need-returns-3
-returns-3 c = λ e. absurd (true≢false (sym e))
-
 pub near-spec : {M : Type 1} → statement M
 near-spec =
     tie.close
     (tie.spec
     returns
-    returns-2
     (λ c. search needs)
-    returns-3
+    returns-2
     (λ c. search needs))

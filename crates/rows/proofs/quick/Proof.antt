@@ -11,6 +11,12 @@ returns c =
     let zero : c .before .before .before .before .before .args .selector ≡ 0 = c .before .before .before .if1 .taken in
     rw zero (c .before .fast .ensures)
 
+scaled-requires : tie.Need-fast-scaled-requires
+scaled-requires c κs =
+    let b = c .before .before .before in
+    let p = b .pre .1 .0 in
+    (b .pre .0, ((p .0, p .1, p .2, omega (arith, p .3, c .before .if1 .left)), b .pre .1 .1))
+
 returns-2 : tie.Need-returns-2
 returns-2 c =
     let a = c .before .before .before .before .before .args in
@@ -25,6 +31,6 @@ quick-spec =
     (λ c. search needs)
     returns
     (λ c. search needs)
-    (λ c κs. search needs)
+    scaled-requires
     (λ c. search needs)
     returns-2)

@@ -1,0 +1,33 @@
+-- `step` meets its contract. Assumes nothing.
+use borrow.Author.Needs.{needs}
+use native.Mathlib.Omega.{arith}
+use Prim.Native.Nat.{_≤_}
+use Rattle.rows.proofs.WordLaws.{cond-le}
+use Rattle.rows.proofs.step.Statement.{statement}
+use Rattle.rows.proofs.step.Tie as tie
+use Rattle.rows.proofs.step.Reads as reads
+use Rattle.rows.proofs.step.Lts as lts
+use Rattle.rows.proofs.changed.Reads as changed-reads
+use Rattle.rows.proofs.pick.Reads as pick-reads
+
+-- the bits of the update
+taken : (c : tie.After-pick) → c .pick .result ≤ 67
+taken c = rw (c .pick .ensures) (cond-le (c .before .before .args .last) 0 (c .before .changed .result .used) 67 (omega arith) (c .before .changed .ensures .1))
+
+add-t7 : tie.Need-add-t7
+add-t7 c = omega (arith, taken c)
+
+returns : tie.Need-returns
+returns c = (simp (c .pick .ensures, c .before .changed .ensures .0), omega (arith, taken c))
+
+pub step-spec : {M : Type 1} → statement M
+step-spec =
+    tie.close
+    (tie.spec
+    (λ c. search needs)
+    (λ c. search needs)
+    (λ c κs. search needs)
+    (λ c. search needs)
+    (λ c κs. search needs)
+    add-t7
+    returns)
