@@ -1,40 +1,13 @@
 // Runs `records::decode_packet` over packets from standard input, and compares its coefficients and its count with those that stand
 // beside each packet. A case is six little-endian words (the packet's length, kind, m, columns, records, stopped records), the packet's
 // bytes, and a word for each coefficient.
-ghost use Prim.Native.Nat.{_+_, _*_, _<_, _≤_, _^_};
+ghost use Prim.Native.Nat.{_*_, _<_, _≤_, _^_};
 ghost use lib.ListN.{length};
+use vectors::read;
+use vectors::same;
+use vectors::small;
+use vectors::word;
 use words::field;
-
-fn wide(x: u8) -> usize
-    ensures { λ r. ⌜ r < 256 ⌝ }
-{
-    x as usize
-}
-
-// The little-endian word at a byte.
-fn word(b: &[u8], at: usize) -> usize
-    requires { ⌜ at + 4 ≤ length (now b) ⌝ }
-    ensures { λ r. ⌜ r < 2 ^ 32 ⌝ }
-{
-    wide(b[at])
-        + 0x100 * wide(b[at + 1])
-        + 0x1_0000 * wide(b[at + 2])
-        + 0x100_0000 * wide(b[at + 3])
-}
-
-// Whether the band holds the words of b.
-fn same(band: &[i32], b: &[u8]) -> bool
-    requires { ⌜ 4 * length (now band) ≤ length (now b) ⌝ }
-{
-    let mut i = 0;
-    while i < band.len() {
-        if band[i] != wrap32::cut32(word(b, 4 * i) as i64) {
-            return false;
-        }
-        i += 1;
-    }
-    true
-}
 
 // Decodes a packet, and answers how many records stopped; 999 where the packet and the sizes do not go together.
 fn stopped_of(packet: &[u8], m: usize, cols: usize, n: usize, band: &mut [i32]) -> usize
@@ -53,14 +26,6 @@ fn stopped_of(packet: &[u8], m: usize, cols: usize, n: usize, band: &mut [i32]) 
         return 999;
     }
     records::decode_packet(packet, m, cols, n, band) as usize
-}
-
-// A size of the case, cut to a byte.
-fn small(head: &[u8], at: usize) -> usize
-    requires { ⌜ at + 4 ≤ length (now head) ⌝ }
-    ensures { λ r. ⌜ r < 256 ⌝ }
-{
-    word(head, at) % 256
 }
 
 // The coefficients of the case.
@@ -104,10 +69,10 @@ fn read_case(head: &[u8], packet: &mut [u8], want: &mut [u8], band: &mut [i32]) 
     if band.len() < n {
         return false;
     }
-    if io::read_full(0, &mut packet[0..bytes]) < bytes {
+    if !read(&mut packet[0..bytes]) {
         return false;
     }
-    if io::read_full(0, &mut want[0..end]) < end {
+    if !read(&mut want[0..end]) {
         return false;
     }
     right_case(head, &packet[0..bytes], &want[0..end], &mut band[0..n])
@@ -119,7 +84,7 @@ fn next_case() -> bool {
     let mut packet = [0u8; 4096];
     let mut want = [0u8; 4096];
     let mut band = [1i32; 1024];
-    if io::read_full(0, &mut head) < 24 {
+    if !read(&mut head) {
         return false;
     }
     read_case(&head, &mut packet, &mut want, &mut band)
@@ -142,15 +107,6 @@ fn run(cases: usize) -> usize
 
 // As many cases as the first word says.
 fn main() {
-    let mut first = [0u8; 4];
-    let got = io::read_full(0, &mut first);
-    if got < 4 {
-        return;
-    }
-    let cases = word(&first, 0);
-    let right = run(cases);
-    io::print_decimal(1, right as u64);
-    io::write_all(1, b" as they should be, ");
-    io::print_decimal(1, (cases - right) as u64);
-    io::write_all(1, b" not\n");
+    let cases = vectors::cases();
+    vectors::report(run(cases), cases);
 }

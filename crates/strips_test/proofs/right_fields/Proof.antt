@@ -1,18 +1,17 @@
--- `same` meets its contract. Assumes nothing.
+-- `right_fields` meets its contract. Assumes nothing.
 use borrow.Author.Needs.{needs}
 use Prim.Native.Nat.{_-_}
-use lib.ListN.{length}
-use Rattle.records_test.proofs.same.Statement.{statement}
-use Rattle.records_test.proofs.same.Tie as tie
+use Rattle.strips_test.proofs.right_fields.Statement.{statement}
+use Rattle.strips_test.proofs.right_fields.Tie as tie
 
 abbrev Inv-loop : tie.InvT-loop
-Inv-loop band b i₀ i = Unit
+Inv-loop strip full-w full-h want i₀ i = Unit
 
 abbrev μ-loop : tie.MeasureT-loop
-μ-loop band b i₀ i = length band - i
+μ-loop strip full-w full-h want i₀ i = 119 - i
 
-pub same-spec : {M : Type 1} → statement M
-same-spec =
+pub right-fields-spec : {M : Type 1} → statement M
+right-fields-spec =
     tie.close
     (tie.spec
     Inv-loop
@@ -20,9 +19,7 @@ same-spec =
     (λ c. search needs)
     (λ c. search needs)
     (λ c. search needs)
-    (λ c. search needs)
     (λ c κs. search needs)
-    (λ c. search needs)
     (λ c κs. search needs)
     (λ c. search needs)
     (λ c. search needs)
