@@ -71,7 +71,7 @@ impl Times {
     }
 
     fn print(self) {
-        print!("{:>12.2}{:>9.2}{:>8.2}", self.original, self.ours, self.original / self.ours);
+        print!("{:>12.3}{:>9.3}{:>8.2}", self.original, self.ours, self.original / self.ours);
     }
 }
 
@@ -104,7 +104,8 @@ fn lines() -> Vec<Line> {
             lines.extend(MEANS.map(|mean| line(4608, height, selector, mean)));
         }
     }
-    lines.extend([256, 1024, 4096, 8192].map(|width| line(width, 3072, 2, MEANS[1])));
+    lines.extend([16, 256, 1024, 4096, 8192].map(|width| line(width, 3072, 2, MEANS[1])));
+    lines.extend([(16, 16), (16, 26), (64, 48)].map(|(width, height)| line(width, height, 2, MEANS[1])));
     lines
 }
 
