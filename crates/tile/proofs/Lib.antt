@@ -3,3 +3,4 @@ pub mod StoppedLaws
 pub mod GoodLaws
 pub mod PlaneLaws
 pub mod AfterLaws
+pub mod Lossless
