@@ -44,7 +44,7 @@ filled-four d i a b c e l =
     ∙ filled-set d i a (b ∷ c ∷ e ∷ l)
 
 -- an element that is stored where it stands
-set-same : (d : List ℤ) (i : ℕ) → set d i (getD d i (pos 0)) ≡ d
+pub set-same : (d : List ℤ) (i : ℕ) → set d i (getD d i (pos 0)) ≡ d
 set-same [] i = refl
 set-same (x ∷ d) zero = refl
 set-same (x ∷ d) (suc i) = ap (λ (l : List ℤ). x ∷ l) (set-same d i)

@@ -4,4 +4,7 @@ pub mod Row
 pub mod RunWord
 pub mod SignWord
 pub mod Steps
+pub mod StretchLaws
+pub mod WidthChange
+pub mod Within
 pub mod WordLaws

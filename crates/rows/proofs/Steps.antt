@@ -18,11 +18,14 @@ use Rattle.rows.specs.declared.Change.{Change}
 use Rattle.rows.specs.declared.Next.{Next}
 use Rattle.rows.specs.declared.Run.{Run}
 use Rattle.format.specs.Coefficients.{Part, RunAnswer, groupOf, widthNext, zerosOf}
-use Rattle.rows.specs.Word.{changeOf, stepOf, Quad, quadOf, storeQuad, Runs}
-use Rattle.rows.specs.Course.{Going, leftOf, Onward, movedTo, Done, Clean}
+use Rattle.rows.specs.Word.{changeOf, stepOf, scaledOf, signedOf, Quad, splitOf, quadOf, storeQuad, Runs}
+use Rattle.rows.specs.Stretch.{within, stretchOf}
+use Rattle.rows.specs.Course.{Going, leftOf, Onward, OnwardAll, movedTo, Done, Clean}
 use Rattle.rows.proofs.Row.{going-group, going-run, going-end}
 use Rattle.rows.proofs.Filled.{clean-filled, clean-four}
-use Rattle.rows.proofs.WordLaws.{group-word, next-last, next-more}
+use Rattle.rows.proofs.WordLaws.{scaled-zero, front-lt, group-word, next-last, next-more}
+use Rattle.rows.proofs.StretchLaws.{stretch-zero, stretch-signed}
+use Rattle.rows.proofs.Within.{within-length, within-none, within-set, within-clean, clean-within}
 
 -- a reader that has not moved
 pub moved-none : (r : Reader) → movedTo r (r .place) ≡ r
@@ -41,7 +44,7 @@ module _ (s : List ℕ) (sel : ℕ) (d : List ℤ) (i : ℕ) (reader : Reader) (
   -- by the width that comes after its values
   going-by : (w′ : ℕ) → 4 * w ≤ u .used → widthNext s (leftOf d i) w (skipped (movedTo reader place) (4 * w)) ≡ record { value = w′; reader = skipped (movedTo reader place) (u .used) }
       → (whole : Part) (d₀ : List ℤ) → Going s sel whole d₀ d i (leftOf d i) (record { value = w; reader = movedTo reader place })
-      → Going s sel whole d₀ d′ (i + 4) (leftOf d′ (i + 4)) (record { value = w′; reader = movedTo reader (place + u .used + k) })
+      → Going s sel whole d₀ d′ (i + 4) (leftOf d′ (i + 4)) (record { value = w′; reader = movedTo reader (place + (u .used + k)) })
   going-by w′ least next whole d₀ now =
       let g = leftOf d i in
       let n = u .used in
@@ -49,16 +52,16 @@ module _ (s : List ℕ) (sel : ℕ) (d : List ℤ) (i : ℕ) (reader : Reader) (
       let len = same-length in
       let left : g - 1 ≡ leftOf d′ (i + 4) = omega arith in
       let e = group-word s (movedTo reader place) sel w word g n w′ fits holds most below least short (omega arith) next in
-      let pl : place + n + k ≡ place + (n + q .used) = omega arith in
+      let pl : n + k ≡ n + q .used = omega arith in
       let rm : reader .place + reader .remaining - (place + (n + q .used)) ≡ reader .place + reader .remaining - place - (n + q .used) = omega arith in
-      let answer : record { values = q .a ∷ q .b ∷ q .c ∷ q .d ∷ []; width = w′; reader = movedTo reader (place + n + k) } ≡ groupOf s sel g (record { value = w; reader = movedTo reader place }) =
+      let answer : record { values = q .a ∷ q .b ∷ q .c ∷ q .d ∷ []; width = w′; reader = movedTo reader (place + (n + k)) } ≡ groupOf s sel g (record { value = w; reader = movedTo reader place }) =
       simp (pl, rm) (sym e) in
       rw left at
       (rw (← ed) at
-      (going-group s sel whole d₀ d i g (record { value = w; reader = movedTo reader place }) now (λ z. omega arith) (q .a) (q .b) (q .c) (q .d) w′ (movedTo reader (place + n + k)) answer go (omega arith) (λ z. omega arith)))
+      (going-group s sel whole d₀ d i g (record { value = w; reader = movedTo reader place }) now (λ z. omega arith) (q .a) (q .b) (q .c) (q .d) w′ (movedTo reader (place + (n + k))) answer go (omega arith) (λ z. omega arith)))
 
   pub going-word : (whole : Part) (d₀ : List ℤ) → Going s sel whole d₀ d i (leftOf d i) (record { value = w; reader = movedTo reader place })
-      → Going s sel whole d₀ d′ (i + 4) (leftOf d′ (i + 4)) (record { value = u .width; reader = movedTo reader (place + u .used + k) })
+      → Going s sel whole d₀ d′ (i + 4) (leftOf d′ (i + 4)) (record { value = u .width; reader = movedTo reader (place + (u .used + k)) })
   going-word whole d₀ now =
       let v = changeOf (word * 2 ^ (4 * w) % 2 ^ 64) w in
       let len = same-length in
@@ -67,27 +70,75 @@ module _ (s : List ℕ) (sel : ℕ) (d : List ℤ) (i : ℕ) (reader : Reader) (
       (λ (end : length d ≤ i + 4).
       let un : u .used ≡ 4 * w = ap (λ (t : Change). t .used) eu ∙ simp (le-leb (length d) (i + 4) end, add-zero) in
       let next = next-last s (movedTo reader place) w word (leftOf d i) (omega arith) in
-      going-end s sel whole d₀ d′ (i + 4) (leftOf d′ (i + 4)) w (u .width) (movedTo reader (place + u .used + k)) (omega arith) (going-by w (omega arith) (rw un next) whole d₀ now))
+      going-end s sel whole d₀ d′ (i + 4) (leftOf d′ (i + 4)) w (u .width) (movedTo reader (place + (u .used + k))) (omega arith) (going-by w (omega arith) (rw un next) whole d₀ now))
       (λ (on : i + 4 < length d).
       let un : u .used ≡ 4 * w + v .used = ap (λ (t : Change). t .used) eu ∙ simp (lt-leb (length d) (i + 4) on) in
       let next = next-more s (movedTo reader place) w word (leftOf d i) go holds some (omega arith) (omega arith) (omega arith) in
       going-by (u .width) (omega arith) (rw (un, uw) next) whole d₀ now)
       (le-or-lt (length d) (i + 4))
 
+-- four stores in a list that is stretched up to them
+within-quad : (f : ℤ → ℤ) (d : List ℤ) (a i : ℕ) (q : Quad) → a ≤ i
+    → within f (storeQuad d i q) a (i + 4) ≡ storeQuad (within f d a i) i (record { a = f (q .a); b = f (q .b); c = f (q .c); d = f (q .d); used = q .used })
+within-quad f d a i q h =
+    let d1 = set d i (q .a) in
+    let d2 = set d1 (i + 1) (q .b) in
+    let d3 = set d2 (i + 2) (q .c) in
+    let two : i + 2 ≡ i + 1 + 1 = omega arith in
+    let three : i + 3 ≡ i + 2 + 1 = omega arith in
+    let four : i + 4 ≡ i + 3 + 1 = omega arith in
+    let one : within f d1 a (i + 1) ≡ set (within f d a i) i (f (q .a)) = within-set f d a i (q .a) h in
+    let next : within f d2 a (i + 2) ≡ set (within f d1 a (i + 1)) (i + 1) (f (q .b)) = ap (within f d2 a) two ∙ within-set f d1 a (i + 1) (q .b) (omega arith) in
+    let last : within f d3 a (i + 3) ≡ set (within f d2 a (i + 2)) (i + 2) (f (q .c)) = ap (within f d3 a) three ∙ within-set f d2 a (i + 2) (q .c) (omega arith) in
+    ap (within f (storeQuad d i q) a) four ∙ within-set f d3 a (i + 3) (q .d) (omega arith)
+    ∙ simp (last, next, one)
+
+-- a quad of selector 0 under another selector
+stretch-quad : (sel word w n : ℕ) → sel < 16 → word < 2 ^ 64 → w ≤ 12
+    → record { a = stretchOf sel (quadOf 0 word w n .a); b = stretchOf sel (quadOf 0 word w n .b); c = stretchOf sel (quadOf 0 word w n .c); d = stretchOf sel (quadOf 0 word w n .d); used = quadOf 0 word w n .used }
+    ≡ quadOf sel word w n
+unfolding quadOf splitOf
+stretch-quad sel word w n below fits most =
+    let b = word * 2 ^ w % 2 ^ 64 in
+    let c = b * 2 ^ w % 2 ^ 64 in
+    let d = c * 2 ^ w % 2 ^ 64 in
+    let f : (u : ℕ) → u < 2 ^ 12 → (bit : ℕ) → stretchOf sel (signedOf u bit) ≡ signedOf (scaledOf u sel) bit = λ u small bit. stretch-signed u sel bit small below in
+    simp (
+      scaled-zero,
+      f (word / 2 ^ (64 - w)) (front-lt word w fits most),
+      f (b / 2 ^ (64 - w)) (front-lt b w (omega arith) most),
+      f (c / 2 ^ (64 - w)) (front-lt c w (omega arith) most),
+      f (d / 2 ^ (64 - w)) (front-lt d w (omega arith) most),
+    )
+
+used-same : (sel word w n : ℕ) → quadOf 0 word w n .used ≡ quadOf sel word w n .used
+unfolding quadOf
+used-same sel word w n = refl
+
 -- what holds before each turn
-pub record Turn (s : List ℕ) (sel : ℕ) (d0 : List ℤ) (out width : ℕ) (reader : BitReader) (d : List ℤ) (place w i : ℕ) : Type 0 where
-  pub on : Onward s sel d0 out (record { value = width; reader = asReader reader }) d i (record { value = w; reader = movedTo (asReader reader) place })
+pub record Turn (s : List ℕ) (d0 : List ℤ) (out width : ℕ) (reader : BitReader) (d : List ℤ) (place word w i : ℕ) : Type 0 where
+  pub same : length d ≡ length d0
+  pub clean : Clean d i
+  pub on : OnwardAll s d0 out (record { value = width; reader = asReader reader }) d i (record { value = w; reader = movedTo (asReader reader) place })
+  pub fits : word < 2 ^ 64
+  pub holds : word / 2 ^ 7 ≡ bitsAt s place 57
   pub from : reader .place ≤ place
   pub to : place ≤ reader .place + reader .remaining
   pub forward : out ≤ i
   pub inside : i < length d0 + 4
   pub still : i ≡ out → w ≡ width
 
-module _ (s : List ℕ) (sel : ℕ) (d0 : List ℤ) (out width : ℕ) (reader : BitReader) (ready : Ready s reader) (go : reader .status ≡ 0) where
-  pub turn-first : out < length d0 → Clean d0 out → Turn s sel d0 out width reader d0 (reader .place) width out
-  turn-first h clean =
+module _ (s : List ℕ) (d0 : List ℤ) (out width : ℕ) (reader : BitReader) (ready : Ready s reader) (go : reader .status ≡ 0) where
+  pub turn-first : out < length d0 → Clean d0 out → (word : ℕ) → word < 2 ^ 64 → word / 2 ^ 7 ≡ bitsAt s (reader .place) 57 → Turn s d0 out width reader d0 (reader .place) word width out
+  turn-first h clean word fits holds =
       record {
-        on = record { same = refl; clean = clean; goes = λ whole d₀ now. rw (moved-none (asReader reader)) now };
+        same = refl;
+        clean = clean;
+        on = λ sel below.
+            let none = within-none (stretchOf sel) d0 out out (omega arith) in
+            record { same = ap length none; clean = clean-within (stretchOf sel) d0 out out clean; goes = λ whole d₀ now. rw (moved-none (asReader reader), none) now };
+        fits = fits;
+        holds = holds;
         from = omega arith;
         to = omega arith;
         forward = omega arith;
@@ -95,23 +146,35 @@ module _ (s : List ℕ) (sel : ℕ) (d0 : List ℤ) (out width : ℕ) (reader : 
         still = λ e. refl;
       }
 
-  module _ (d : List ℤ) (place w i : ℕ) (turn : Turn s sel d0 out width reader d place w i) (word : ℕ) (fits : word < 2 ^ 64) (holds : word / 2 ^ 7 ≡ bitsAt s place 57)
-      (more : i + 4 ≤ length d0) where
+  module _ (d : List ℤ) (place w i word : ℕ) (turn : Turn s d0 out width reader d place word w i) (more : i + 4 ≤ length d0) (next : ℕ) (fits : next < 2 ^ 64) where
     -- a group
-    pub turn-group : 1 ≤ w → w ≤ 12 → sel < 16 → (u : Change) → u ≡ stepOf word w (leb (length d0) (i + 4))
-        → (u .used + 4 ≤ 57) × (place + (u .used + 4) ≤ reader .place + reader .remaining)
-        → (d′ : List ℤ) (k : ℕ) → d′ ≡ storeQuad d i (quadOf sel word w (u .used)) → k ≡ quadOf sel word w (u .used) .used → k ≤ 4
-        → Turn s sel d0 out width reader d′ (place + u .used + k) (u .width) (i + 4)
-    turn-group some most below u eu room d′ k ed ek few =
-        let len = turn .on .same in
-        let q = quadOf sel word w (u .used) in
-        let eu′ = eu ∙ ap (λ (n : ℕ). stepOf word w (leb n (i + 4))) (sym len) in
+    pub turn-group : 1 ≤ w → w ≤ 12 → (u : Change) → u ≡ stepOf word w (leb (length d0) (i + 4))
+        → (u .used + 4 ≤ 56) × (place + (u .used + 4) ≤ reader .place + reader .remaining)
+        → (d′ : List ℤ) (k : ℕ) → d′ ≡ storeQuad d i (quadOf 0 word w (u .used)) → k ≡ quadOf 0 word w (u .used) .used → k ≤ 4
+        → next / 2 ^ 7 ≡ bitsAt s (place + (u .used + k)) 57
+        → Turn s d0 out width reader d′ (place + (u .used + k)) next (u .width) (i + 4)
+    turn-group some most u eu room d′ k ed ek few holds =
+        let len = turn .same in
+        let q = quadOf 0 word w (u .used) in
+        let clean : Clean d′ (i + 4) = rw ed (clean-four d i (q .a) (q .b) (q .c) (q .d) (turn .clean)) in
         record {
-          on = record {
-            same = ap length ed ∙ simp length-set (turn .on .same);
-            clean = rw ed (clean-four d i (q .a) (q .b) (q .c) (q .d) (turn .on .clean));
-            goes = λ whole d₀ now. going-word s sel d i (asReader reader) place w word u eu′ d′ k ed ek go fits holds some most below (room .0) (room .1) (omega arith) whole d₀ (turn .on .goes whole d₀ now);
-          };
+          same = ap length ed ∙ simp length-set len;
+          clean = clean;
+          on = λ sel below.
+              let f = stretchOf sel in
+              let e : List ℤ = within f d out i in
+              let e′ : List ℤ = within f d′ out (i + 4) in
+              let lene : length e ≡ length d = within-length f d out i in
+              let eu′ = eu ∙ ap (λ (n : ℕ). stepOf word w (leb n (i + 4))) (sym (lene ∙ len)) in
+              let ee : e′ ≡ storeQuad e i (quadOf sel word w (u .used)) =
+              ap (λ (l : List ℤ). within f l out (i + 4)) ed ∙ within-quad f d out i q (turn .forward) ∙ ap (storeQuad e i) (stretch-quad sel word w (u .used) below (turn .fits) most) in
+              record {
+                same = ap length ee ∙ simp length-set (turn .on sel below .same);
+                clean = clean-within f d′ out (i + 4) clean;
+                goes = λ whole d₀ now. going-word s sel e i (asReader reader) place w word u eu′ e′ k ee (ek ∙ used-same sel word w (u .used)) go (turn .fits) (turn .holds) some most below (omega arith) (room .1) (omega arith) whole d₀ (turn .on sel below .goes whole d₀ now);
+              };
+          fits = fits;
+          holds = holds;
           from = omega arith;
           to = omega arith;
           forward = omega arith;
@@ -120,28 +183,40 @@ module _ (s : List ℕ) (sel : ℕ) (d0 : List ℤ) (out width : ℕ) (reader : 
         }
 
     -- a zero run
-    pub turn-run : w ≡ 0 → (h : Run) → Runs word ((length d0 - i + 3) / 4) h → (h .used ≤ 57) × (place + h .used ≤ reader .place + reader .remaining)
-        → (0 < h .groups) × Turn s sel d0 out width reader d (place + h .used) (h .width) (i + 4 * h .groups)
-    turn-run none h runs room =
-        let len = turn .on .same in
+    pub turn-run : w ≡ 0 → (h : Run) → Runs word ((length d0 - i + 3) / 4) h → (h .used ≤ 56) × (place + h .used ≤ reader .place + reader .remaining)
+        → next / 2 ^ 7 ≡ bitsAt s (place + h .used) 57
+        → (0 < h .groups) × Turn s d0 out width reader d (place + h .used) next (h .width) (i + 4 * h .groups)
+    turn-run none h runs room holds =
+        let len = turn .same in
         let r = movedTo (asReader reader) place in
-        let same : leftOf d i ≡ (length d0 - i + 3) / 4 = omega arith in
-        let got = runs .reads s r holds (room .0) (omega arith) go in
-        let most = runs .most in
-        let left : leftOf d i - h .groups ≡ leftOf d (i + 4 * h .groups) = omega arith in
-        let rm : reader .place + reader .remaining - (place + h .used) ≡ reader .place + reader .remaining - place - h .used = omega arith in
-        let run : record { groups = h .groups; width = h .width; reader = movedTo (asReader reader) (place + h .used) } ≡ zerosOf s (leftOf d i) r =
-        simp rm (sym (got .1) ∙ ap (λ (g : ℕ). zerosOf s g r) (sym same)) in (
+        let got = runs .reads s r (turn .holds) (omega arith) (omega arith) go in
+        let most = runs .most in (
           got .0,
           record {
-            on = record {
-              same = turn .on .same;
-              clean = λ j before. turn .on .clean j (omega arith);
-              goes = λ whole d₀ now.
-                  rw left at
-                  (going-run s sel whole d₀ d i (leftOf d i) (record { value = w; reader = r }) (turn .on .goes whole d₀ now) (λ z. omega arith) d
-                  (record { groups = h .groups; width = h .width; reader = movedTo (asReader reader) (place + h .used) }) run (got .0) go none (clean-filled d i (turn .on .clean) (4 * h .groups)));
-            };
+            same = len;
+            clean = λ j before. turn .clean j (omega arith);
+            on = λ sel below.
+                let f = stretchOf sel in
+                let e : List ℤ = within f d out i in
+                let lene : length e ≡ length d = within-length f d out i in
+                let on = turn .on sel below in
+                let stays : within f d out (i + 4 * h .groups) ≡ e = within-clean f d out i (4 * h .groups) (turn .clean) (stretch-zero sel) (turn .forward) in
+                let same : leftOf e i ≡ (length d0 - i + 3) / 4 = omega arith in
+                let left : leftOf e i - h .groups ≡ leftOf e (i + 4 * h .groups) = omega arith in
+                let rm : reader .place + reader .remaining - (place + h .used) ≡ reader .place + reader .remaining - place - h .used = omega arith in
+                let run : record { groups = h .groups; width = h .width; reader = movedTo (asReader reader) (place + h .used) } ≡ zerosOf s (leftOf e i) r =
+                simp rm (sym (got .1) ∙ ap (λ (g : ℕ). zerosOf s g r) (sym same)) in
+                rw stays
+                (record {
+                  same = on .same;
+                  clean = λ j before. on .clean j (omega arith);
+                  goes = λ whole d₀ now.
+                      rw left at
+                      (going-run s sel whole d₀ e i (leftOf e i) (record { value = w; reader = r }) (on .goes whole d₀ now) (λ z. omega arith) e
+                      (record { groups = h .groups; width = h .width; reader = movedTo (asReader reader) (place + h .used) }) run (got .0) go none (clean-filled e i (on .clean) (4 * h .groups)));
+                });
+            fits = fits;
+            holds = holds;
             from = omega arith;
             to = omega arith;
             forward = omega arith;
@@ -150,16 +225,16 @@ module _ (s : List ℕ) (sel : ℕ) (d0 : List ℤ) (out width : ℕ) (reader : 
           },
         )
 
-  pub turn-last : (d : List ℤ) (place w i : ℕ) → Turn s sel d0 out width reader d place w i
+  pub turn-last : (d : List ℤ) (place word w i : ℕ) → Turn s d0 out width reader d place word w i
       → (n : Next) → (n .out ≡ i) × (n .width ≡ w) × (asReader (n .reader) ≡ movedTo (asReader reader) place)
-      → Onward s sel d0 out (record { value = width; reader = asReader reader }) d (n .out) (record { value = n .width; reader = asReader (n .reader) })
+      → OnwardAll s d0 out (record { value = width; reader = asReader reader }) d (n .out) (record { value = n .width; reader = asReader (n .reader) })
       × Done s (length d0) out width (n .out) (n .width) (n .reader)
-  turn-last d place w i turn n e =
+  turn-last d place word w i turn n e =
       let r = n .reader in
       let p : r .place ≡ place = ap (λ (t : Reader). t .place) (e .2) in
       let m : r .remaining ≡ reader .place + reader .remaining - place = ap (λ (t : Reader). t .remaining) (e .2) in
       let g : r .status ≡ reader .status = ap (λ (t : Reader). t .status) (e .2) in (
-        rw (e .0, e .1, e .2) (turn .on),
+        λ sel below. rw (e .0, e .1, e .2) (turn .on sel below),
         record {
           ready = record { size = ready .size; room = omega (arith, ready .room, turn .to) };
           going = g ∙ go;

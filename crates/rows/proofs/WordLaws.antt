@@ -5,18 +5,18 @@ use mathlib.Core.Logic.{⊎-elim}
 use mathlib.Core.List.{List, [], _∷_}
 use mathlib.Core.Bool.{Bool, true, false, cond}
 use Prim.Native.Nat.{ℕ, zero, suc, _+_, _-_, _*_, _/_, _%_, _^_, _≤_, _<_, min}
-use native.Mathlib.Nat.{zero-mul, add-zero, sub-zero, lt-of-lt-of-le}
+use native.Mathlib.Nat.{zero-add, add-zero, sub-zero, lt-of-lt-of-le}
 use native.Mathlib.Omega.{arith}
 use lib.Count.{leadingZeros}
-use lib.Dec.{eqb, ltb, lit≤}
-use lib.Pow.{shr-lt, shl-lt, pow-mono, shr-shr}
-use lib.IntN.{ℤ, pos, negℤ, _-ℤ_, +ℤ-idl, +ℤ-idr}
+use lib.Dec.{eqb, lit≤}
+use lib.Pow.{shr-lt, shl-lt, pow-mono}
+use lib.IntN.{ℤ, pos, negℤ}
 use mir.Syntax.{w32}
 use mir.Val.{SFits}
 use Rattle.wrap32.proofs.Laws.{cut-id}
 use Rattle.format.specs.Bits.{bitsAt}
 use Rattle.format.specs.Reader.{Reader, updateOf, skipped}
-use Rattle.format.proofs.BitLaws.{le-or-lt, bits-lt, bits-top, bits-low, prefix, prefix-of, middle-of}
+use Rattle.format.proofs.BitLaws.{le-or-lt, bits-lt, bits-low, prefix, middle-of}
 use Rattle.bits.proofs.Reads4.{four-within}
 use Rattle.bits.proofs.Fast.{read-within, word-keeps, word-grows, word-shrinks, word-ends}
 use Rattle.format.specs.Coefficients.{Four, valueOf, signOf, signsOf, widthNext, groupOf}
@@ -46,7 +46,7 @@ pub record Short (u sel : ℕ) : Type 0 where
   pub same : nonzeroOf (scaledOf u sel) ≡ nonzeroOf u
   pub value : valueOf u sel ≡ pos (scaledOf u sel)
 
-scaled-none : (u sel : ℕ) → u ≡ 0 → scaledOf u sel ≡ 0
+pub scaled-none : (u sel : ℕ) → u ≡ 0 → scaledOf u sel ≡ 0
 unfolding scaledOf
 scaled-none u sel e = ⊎-elim (λ (h : sel ≤ 0). simp (eq-eqb sel 0 (omega arith), e)) (λ (h : 0 < sel). simp (ne-eqb sel 0 (λ z. omega arith), eq-eqb u 0 e, e)) (le-or-lt sel 0)
 
@@ -85,23 +85,31 @@ short u sel small h =
     (le-or-lt sel 0))
     (le-or-lt u 0)
 
--- the first of four values is short
-pub front-lt : (word w : ℕ) → word < 2 ^ 64 → w ≤ 12 → word / 2 ^ (64 - 4 * w) / 2 ^ w / 2 ^ w / 2 ^ w < 2 ^ 12
-front-lt word w fits most =
-    let all : 64 - 4 * w + w + w + w ≡ 64 - w = omega arith in
+-- the first bits of a word are short
+pub front-lt : (x w : ℕ) → x < 2 ^ 64 → w ≤ 12 → x / 2 ^ (64 - w) < 2 ^ 12
+front-lt x w fits most =
     let whole : w + (64 - w) ≡ 64 = omega arith in
-    let small : word < 2 ^ (w + (64 - w)) = rw whole fits in
-    rw (shr-shr word (64 - 4 * w) w, shr-shr word (64 - 4 * w + w) w, shr-shr word (64 - 4 * w + w + w) w, all) (lt-of-lt-of-le (shr-lt w (64 - w) small) (pow-mono {j = 12} most))
+    let small : x < 2 ^ (w + (64 - w)) = rw whole fits in
+    lt-of-lt-of-le (shr-lt w (64 - w) small) (pow-mono {j = 12} most)
 
 -- the four values
 module _ (s : List ℕ) (p word w : ℕ) (holds : word / 2 ^ 7 ≡ bitsAt s p 57) (most : w ≤ 12) where
   pub values-bits : splitOf word w ≡ record { a = bitsAt s p w; b = bitsAt s (p + w) w; c = bitsAt s (p + 2 * w) w; d = bitsAt s (p + 3 * w) w }
   unfolding splitOf
   values-bits =
-      let t4 : word / 2 ^ (64 - 4 * w) ≡ bitsAt s p (3 * w + w) = prefix s p word (4 * w) holds (omega arith) ∙ ap (bitsAt s p) (omega arith) in
-      let t3 : bitsAt s p (3 * w) ≡ bitsAt s p (2 * w + w) = ap (bitsAt s p) (omega arith) in
-      let t2 : bitsAt s p (2 * w) ≡ bitsAt s p (w + w) = ap (bitsAt s p) (omega arith) in
-      simp (t4, bits-top s p (3 * w) w, bits-low s p (3 * w) w, t3, bits-top s p (2 * w) w, bits-low s p (2 * w) w, t2, bits-top s p w w, bits-low s p w w)
+      let b = word * 2 ^ w % 2 ^ 64 in
+      let c = b * 2 ^ w % 2 ^ 64 in
+      let second : p + w + w ≡ p + 2 * w = omega arith in
+      let third : p + 2 * w + w ≡ p + 3 * w = omega arith in
+      let from-b : b / 2 ^ (64 - (57 - w)) ≡ bitsAt s (p + w) (57 - w) = middle-of s p word w (57 - w) 57 holds (omega arith) (lit≤ tt) in
+      let from-c : c / 2 ^ (64 - (57 - 2 * w)) ≡ bitsAt s (p + 2 * w) (57 - 2 * w) =
+      middle-of s (p + w) b w (57 - 2 * w) (57 - w) from-b (omega arith) (omega arith) ∙ ap (λ (q : ℕ). bitsAt s q (57 - 2 * w)) second in
+      simp (
+        prefix s p word w holds (omega arith),
+        middle-of s p word w w 57 holds (omega arith) (lit≤ tt),
+        middle-of s (p + w) b w w (57 - w) from-b (omega arith) (omega arith) ∙ ap (λ (q : ℕ). bitsAt s q w) second,
+        middle-of s (p + 2 * w) c w w (57 - 2 * w) from-c (omega arith) (omega arith) ∙ ap (λ (q : ℕ). bitsAt s q w) third,
+      )
 
 -- the width update
 pub change-update : (s : List ℕ) (r : Reader) (w word m : ℕ) → word < 2 ^ 64 → word / 2 ^ (64 - m) ≡ bitsAt s (r .place) m → m ≤ 64 → m ≤ r .remaining → r .status ≡ 0
@@ -137,55 +145,60 @@ change-update s r w word m fits holds most enough go some room =
     simp k (word-keeps s r w word m fits holds most enough go keep room′))
     (le-or-lt (2 ^ 63) word)
 
+-- 0 has no sign
+pub signed-none : (m bit : ℕ) → m ≡ 0 → signedOf m bit ≡ pos m
+unfolding signedOf
+signed-none m bit e = ⊎-elim (λ (h : bit ≤ 0). simp (eq-eqb bit 0 (omega arith), e)) (λ (h : 0 < bit). simp (ne-eqb bit 0 (λ z. omega arith), e)) (le-or-lt bit 0)
+
 -- one sign
-module _ (s : List ℕ) (r : Reader) (m x : ℕ) (fits : x < 2 ^ 64) (holds : x / 2 ^ 63 ≡ bitsAt s (r .place) 1) (room : 1 ≤ r .remaining) where
+module _ (s : List ℕ) (r : Reader) (m bit : ℕ) (is : bit ≡ bitsAt s (r .place) 1) (room : 1 ≤ r .remaining) where
   stay : r ≡ skipped r 0
   stay = simp (add-zero, sub-zero)
 
-  signed-none : m ≡ 0 → signedOf m x ≡ pos m
+  signed-bit : signedOf m bit ≡ cond (eqb (bitsAt s (r .place) 1) 0) (pos m) (negℤ (pos m))
   unfolding signedOf
-  signed-none e = ⊎-elim (λ (h : 2 ^ 63 ≤ x). simp (le-ltb x (2 ^ 63) h, e)) (λ (h : x < 2 ^ 63). simp (lt-ltb x (2 ^ 63) h, e)) (le-or-lt (2 ^ 63) x)
+  signed-bit = ap (λ (b : ℕ). cond (eqb b 0) (pos m) (negℤ (pos m))) is
 
-  signed-some : signedOf m x ≡ cond (eqb (bitsAt s (r .place) 1) 0) (pos m) (negℤ (pos m))
-  unfolding signedOf
-  signed-some =
-      ⊎-elim
-      (λ (h : 2 ^ 63 ≤ x). simp (le-ltb x (2 ^ 63) h, ne-eqb (bitsAt s (r .place) 1) 0 (λ e. omega arith)))
-      (λ (h : x < 2 ^ 63). simp (lt-ltb x (2 ^ 63) h, eq-eqb (bitsAt s (r .place) 1) 0 (omega arith)))
-      (le-or-lt (2 ^ 63) x)
-
-  pub sign-word : signOf s (pos m) r ≡ record { value = signedOf m x; reader = skipped r (nonzeroOf m) }
+  pub sign-word : signOf s (pos m) r ≡ record { value = signedOf m bit; reader = skipped r (nonzeroOf m) }
   unfolding signOf
   sign-word =
       ⊎-elim
       (λ (h : m ≤ 0).
       let e : m ≡ 0 = omega arith in
-      simp (le-ltb 0 m h, signed-none e, nonzero-none m e) (ap (λ (t : Reader). record { value = pos m; reader = t }) stay))
-      (λ (h : 0 < m). simp (lt-ltb 0 m h, read-within s r 1 room, signed-some, nonzero-some m h))
+      simp (le-ltb 0 m h, signed-none m bit e, nonzero-none m e) (ap (λ (t : Reader). record { value = pos m; reader = t }) stay))
+      (λ (h : 0 < m). simp (lt-ltb 0 m h, read-within s r 1 room, signed-bit, nonzero-some m h))
       (le-or-lt m 0)
 
--- four signs out of a word of four bits or more
-module _ (s : List ℕ) (r : Reader) (x sel : ℕ) (below : sel < 16) (fits : x < 2 ^ 64) (holds : x / 2 ^ 60 ≡ bitsAt s (r .place) 4)
-    (room : 4 ≤ r .remaining) where
+-- a bit of a word
+bit-at : (s : List ℕ) (p word n k : ℕ) → word / 2 ^ 7 ≡ bitsAt s p 57 → n + k + 1 ≤ 57 → word / 2 ^ (63 - n - k) % 2 ≡ bitsAt s (p + n + k) 1
+bit-at s p word n k holds h =
+    let down : 63 - n - k ≡ 64 - (n + k + 1) = omega arith in
+    let at : p + (n + k) ≡ p + n + k = omega arith in
+    ap (λ (x : ℕ). word / 2 ^ x % 2) down ∙ ap (λ (x : ℕ). x % 2) (prefix s p word (n + k + 1) holds h) ∙ bits-low s p (n + k) 1 ∙ ap (λ (q : ℕ). bitsAt s q 1) at
+
+-- four signs out of a word, after n bits of it
+module _ (s : List ℕ) (r : Reader) (word sel n : ℕ) (below : sel < 16) (holds : word / 2 ^ 7 ≡ bitsAt s (r .place) 57) (short-word : n + 4 ≤ 57)
+    (room : n + 4 ≤ r .remaining) where
   sign-at : (u k : ℕ) → u < 2 ^ 12 → k ≤ 3
-      → signOf s (valueOf u sel) (skipped r k) ≡ record { value = signedOf (scaledOf u sel) (x * 2 ^ k % 2 ^ 64); reader = skipped r (k + nonzeroOf u) }
+      → signOf s (valueOf u sel) (skipped r (n + k)) ≡ record { value = signedOf (scaledOf u sel) (word / 2 ^ (63 - n - k) % 2); reader = skipped r (n + (k + nonzeroOf u)) }
   sign-at u k small h =
       let v = short u sel small below in
-      let e = sign-word s (skipped r k) (scaledOf u sel) (x * 2 ^ k % 2 ^ 64) (omega arith) (middle-of s (r .place) x k 1 4 holds (omega arith) (lit≤ tt)) (omega arith) in
-      let p : r .place + k + nonzeroOf u ≡ r .place + (k + nonzeroOf u) = omega arith in
-      let q : r .remaining - k - nonzeroOf u ≡ r .remaining - (k + nonzeroOf u) = omega arith in
-      ap (λ (z : ℤ). signOf s z (skipped r k)) (v .value) ∙ e ∙ simp (v .same, p, q)
+      let at : r .place + n + k ≡ r .place + (n + k) = omega arith in
+      let bit : word / 2 ^ (63 - n - k) % 2 ≡ bitsAt s (r .place + (n + k)) 1 = bit-at s (r .place) word n k holds (omega arith) ∙ ap (λ (q : ℕ). bitsAt s q 1) at in
+      let e = sign-word s (skipped r (n + k)) (scaledOf u sel) (word / 2 ^ (63 - n - k) % 2) bit (omega arith) in
+      let p : r .place + (n + k) + nonzeroOf u ≡ r .place + (n + (k + nonzeroOf u)) = omega arith in
+      let q : r .remaining - (n + k) - nonzeroOf u ≡ r .remaining - (n + (k + nonzeroOf u)) = omega arith in
+      ap (λ (z : ℤ). signOf s z (skipped r (n + k))) (v .value) ∙ e ∙ simp (v .same, p, q)
 
-  sign-first : (u : ℕ) → u < 2 ^ 12 → signOf s (valueOf u sel) r ≡ record { value = signedOf (scaledOf u sel) x; reader = skipped r (nonzeroOf u) }
-  sign-first u small =
-      let v = short u sel small below in
-      ap (λ (z : ℤ). signOf s z r) (v .value) ∙ sign-word s r (scaledOf u sel) x fits (prefix-of s (r .place) x 1 4 holds (lit≤ tt) (lit≤ tt)) (omega arith) ∙ simp (v .same)
+  sign-first : (u : ℕ) → u < 2 ^ 12
+      → signOf s (valueOf u sel) (skipped r n) ≡ record { value = signedOf (scaledOf u sel) (word / 2 ^ (63 - n) % 2); reader = skipped r (n + nonzeroOf u) }
+  sign-first u small = simp (add-zero, sub-zero, zero-add) at (sign-at u 0 small (omega arith))
 
   module _ (q : Four) (a : q .a < 2 ^ 12) (b : q .b < 2 ^ 12) (c : q .c < 2 ^ 12) (d : q .d < 2 ^ 12) where
     abbrev with-signs : Quad
-    with-signs = withSigns sel (record { a = q .a; b = q .b; c = q .c; d = q .d }) x
+    with-signs = withSigns sel (record { a = q .a; b = q .b; c = q .c; d = q .d }) word (63 - n)
 
-    pub signs-quad : signsOf s sel q r ≡ record { a = with-signs .a; b = with-signs .b; c = with-signs .c; d = with-signs .d; reader = skipped r (with-signs .used) }
+    pub signs-quad : signsOf s sel q (skipped r n) ≡ record { a = with-signs .a; b = with-signs .b; c = with-signs .c; d = with-signs .d; reader = skipped r (n + with-signs .used) }
     unfolding signsOf
     signs-quad =
         let n1 = nonzeroOf (q .a) in
@@ -231,59 +244,19 @@ module _ (s : List ℕ) (r : Reader) (sel w word g n w′ : ℕ) (fits : word < 
   unfolding groupOf quadOf
   group-word =
       let p = r .place in
-      let r2 = skipped r n in
-      let x = word * 2 ^ n % 2 ^ 64 in
       let q : Four = record { a = bitsAt s p w; b = bitsAt s (p + w) w; c = bitsAt s (p + 2 * w) w; d = bitsAt s (p + 3 * w) w; reader = skipped r (4 * w) } in
-      let sq = signs-quad s r2 x sel below (omega arith) (middle-of s p word n 4 57 holds short (lit≤ tt)) (omega arith) q
-      (bits-short p) (bits-short (p + w)) (bits-short (p + 2 * w)) (bits-short (p + 3 * w)) in
-      let k = withSigns sel (record { a = bitsAt s p w; b = bitsAt s (p + w) w; c = bitsAt s (p + 2 * w) w; d = bitsAt s (p + 3 * w) w }) x .used in
-      let pl : p + n + k ≡ p + (n + k) = omega arith in
-      let rm : r .remaining - n - k ≡ r .remaining - (n + k) = omega arith in
-      simp (four-within s r w (omega arith), next, values-bits s p word w holds most, sq, pl, rm)
-
--- the same number of bits as a value that is shifted
-pub scaled-low : (u half nz : ℕ) → u < 2 ^ 12 → half < 15 → nz ≡ nonzeroOf u
-    → (u % 2 ≤ (2 * u + nz) * 2 ^ half % 2 ^ 64) × ((2 * u + nz) * 2 ^ half % 2 ^ 64 - u % 2 ≡ scaledOf u (half + 1)) × ((2 * u + nz) * 2 ^ half % 2 ^ 64 - u % 2 < 2 ^ 31)
-scaled-low u half nz small h e =
-    ⊎-elim
-    (λ (none : u ≤ 0).
-    let z : u ≡ 0 = omega arith in
-    let zz : nz ≡ 0 = e ∙ nonzero-none u z in
-    let shifted : (2 * u + nz) * 2 ^ half ≡ 0 = simp (zz, z) (zero-mul (2 ^ half)) in
-    let l = scaled-none u (half + 1) z in
-    (omega arith, omega arith, omega arith))
-    (λ (some : 0 < u).
-    let zz : nz ≡ 1 = e ∙ nonzero-some u some in
-    let lt = shift-lt u half small h in
-    let le = le-shl (2 * u + 1) half in
-    let back : half + 1 - 1 ≡ half = omega arith in
-    let l : scaledOf u (half + 1) ≡ (2 * u + 1) * 2 ^ half - u % 2 = scaled-some u (half + 1) some (omega arith) ∙ ap (λ (k : ℕ). (2 * u + 1) * 2 ^ k - u % 2) back in
-    rw zz (omega arith, omega arith, omega arith))
-    (le-or-lt u 0)
+      let sq = signs-quad s r word sel n below holds short enough q (bits-short p) (bits-short (p + w)) (bits-short (p + 2 * w)) (bits-short (p + 3 * w)) in
+      simp (four-within s r w (omega arith), next, values-bits s p word w holds most, sq)
 
 pub cond-le : (t : Bool) (a b k : ℕ) → a ≤ k → b ≤ k → cond t a b ≤ k
 cond-le true a b k p q = p
 cond-le false a b k p q = q
 
--- a magnitude under a sign, as a difference
-pub share-difference : (m t word : ℕ) → t ≡ cond (ltb word (2 ^ 63)) 0 m → pos (m - t) -ℤ pos t ≡ signedOf m word
-unfolding signedOf
-share-difference m t word e =
-    ⊎-elim
-    (λ (h : 2 ^ 63 ≤ word).
-    let all : t ≡ m = e ∙ simp (le-ltb word (2 ^ 63) h) in
-    let none : m - m ≡ 0 = omega arith in
-    simp (all, none, le-ltb word (2 ^ 63) h) (+ℤ-idl (negℤ (pos m))))
-    (λ (h : word < 2 ^ 63).
-    let none : t ≡ 0 = e ∙ simp (lt-ltb word (2 ^ 63) h) in
-    simp (none, sub-zero, lt-ltb word (2 ^ 63) h) (+ℤ-idr (pos m)))
-    (le-or-lt (2 ^ 63) word)
-
-neg-fits : (m : ℕ) → m < 2 ^ 31 → SFits w32 (negℤ (pos m))
+pub neg-fits : (m : ℕ) → m < 2 ^ 31 → SFits w32 (negℤ (pos m))
 neg-fits zero h = record { sfits = omega arith }
 neg-fits (suc m) h = record { sfits = omega arith }
 
-pub signed-fits : (m word : ℕ) → m < 2 ^ 31 → SFits w32 (signedOf m word)
+pub signed-fits : (m bit : ℕ) → m < 2 ^ 31 → SFits w32 (signedOf m bit)
 unfolding signedOf
-signed-fits m word small =
-    ⊎-elim (λ (h : 2 ^ 63 ≤ word). simp (le-ltb word (2 ^ 63) h) (neg-fits m small)) (λ (h : word < 2 ^ 63). simp (lt-ltb word (2 ^ 63) h) (record { sfits = small })) (le-or-lt (2 ^ 63) word)
+signed-fits m bit small =
+    ⊎-elim (λ (h : bit ≤ 0). simp (eq-eqb bit 0 (omega arith)) (record { sfits = small })) (λ (h : 0 < bit). simp (ne-eqb bit 0 (λ z. omega arith)) (neg-fits m small)) (le-or-lt bit 0)

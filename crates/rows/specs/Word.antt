@@ -13,7 +13,6 @@ use Rattle.format.specs.Reader.{Reader, skipped}
 use Rattle.format.specs.Coefficients.{zerosOf}
 use Rattle.rows.specs.declared.Change.{Change}
 use Rattle.rows.specs.declared.Run.{Run}
-use Rattle.rows.specs.declared.Split.{Split}
 use Rattle.rows.specs.declared.SignBit.{SignBit}
 
 -- a value with its sign from a word of four sign bits, of which some are used
@@ -52,9 +51,9 @@ scaledOf u sel = cond (eqb sel 0) u (cond (eqb u 0) u ((2 * u + 1) * 2 ^ (sel - 
 unfoldable pub nonzeroOf : ℕ → ℕ
 nonzeroOf u = cond (eqb u 0) 0 1
 
--- a magnitude under the first bit of a word
+-- a magnitude under a sign bit
 unfoldable pub signedOf : ℕ → ℕ → ℤ
-signedOf m word = cond (ltb word (2 ^ 63)) (pos m) (negℤ (pos m))
+signedOf m bit = cond (eqb bit 0) (pos m) (negℤ (pos m))
 
 -- four values with their signs, and the sign bits taken
 pub record Quad : Type 0 where
@@ -64,34 +63,38 @@ pub record Quad : Type 0 where
   pub d : ℤ
   pub used : ℕ
 
+-- four values
+pub record Split : Type 0 where
+  pub a : ℕ
+  pub b : ℕ
+  pub c : ℕ
+  pub d : ℕ
+
 -- the four values of a word's first 4 w bits
 unfoldable pub splitOf : ℕ → ℕ → Split
 splitOf word w =
-    let t = word / 2 ^ (64 - 4 * w) in
-    record { a = t / 2 ^ w / 2 ^ w / 2 ^ w; b = t / 2 ^ w / 2 ^ w % 2 ^ w; c = t / 2 ^ w % 2 ^ w; d = t % 2 ^ w }
+    let b = word * 2 ^ w % 2 ^ 64 in
+    let c = b * 2 ^ w % 2 ^ 64 in
+    let d = c * 2 ^ w % 2 ^ 64 in
+    record { a = word / 2 ^ (64 - w); b = b / 2 ^ (64 - w); c = c / 2 ^ (64 - w); d = d / 2 ^ (64 - w) }
 
-pub record Narrow (v : Split) : Type 0 where
-  pub a : v .a < 2 ^ 12
-  pub b : v .b < 2 ^ 12
-  pub c : v .c < 2 ^ 12
-  pub d : v .d < 2 ^ 12
-
--- under a selector, with the signs from the first bits of another word
-abbrev pub withSigns : ℕ → Split → ℕ → Quad
-withSigns sel v x =
+-- under a selector, with their signs from the bits of a word from its bit `left` on, downward
+abbrev pub withSigns : ℕ → Split → ℕ → ℕ → Quad
+withSigns sel v word left =
     let n1 = nonzeroOf (v .a) in
     let n2 = n1 + nonzeroOf (v .b) in
     let n3 = n2 + nonzeroOf (v .c) in
     record {
-      a = signedOf (scaledOf (v .a) sel) x;
-      b = signedOf (scaledOf (v .b) sel) (x * 2 ^ n1 % 2 ^ 64);
-      c = signedOf (scaledOf (v .c) sel) (x * 2 ^ n2 % 2 ^ 64);
-      d = signedOf (scaledOf (v .d) sel) (x * 2 ^ n3 % 2 ^ 64);
+      a = signedOf (scaledOf (v .a) sel) (word / 2 ^ left % 2);
+      b = signedOf (scaledOf (v .b) sel) (word / 2 ^ (left - n1) % 2);
+      c = signedOf (scaledOf (v .c) sel) (word / 2 ^ (left - n2) % 2);
+      d = signedOf (scaledOf (v .d) sel) (word / 2 ^ (left - n3) % 2);
       used = n3 + nonzeroOf (v .d);
     }
 
+-- with the signs after so many bits of the same word
 unfoldable pub quadOf : ℕ → ℕ → ℕ → ℕ → Quad
-quadOf sel word w used = withSigns sel (splitOf word w) (word * 2 ^ used % 2 ^ 64)
+quadOf sel word w used = withSigns sel (splitOf word w) word (63 - used)
 
 -- four values in their places
 abbrev pub storeQuad : List ℤ → ℕ → Quad → List ℤ

@@ -3,23 +3,25 @@ ghost use mathlib.Core.Path.{_≡_};
 ghost use mathlib.Core.Bool.{true, false, cond};
 ghost use mathlib.Core.List.{List, _++_};
 ghost use Prim.Native.Nat.{_+_, _-_, _*_, _%_, _^_, _<_, _≤_, min};
-ghost use lib.IntN.{ℤ, pos, negℤ};
-ghost use lib.Signed.{ltZ};
+ghost use lib.IntN.{ℤ, pos, negℤ, natAbs, _+ℤ_};
+ghost use lib.Signed.{ltZ, leZ, mag};
 ghost use lib.Dec.{eqb, ltb};
 ghost use lib.ListN.{length, replicate, set};
 ghost use Rattle.format.specs.Coefficients.{valueOf, signOf, signsOf, widthAfter, widthNext, groupOf, zerosOf, stopped, rowOf};
 ghost use Rattle.bits.specs.View.{asReader, asTaken, asFour, Ready};
 ghost use Rattle.rows.specs.View.{asSigned, asSignedFour, asGroup, asRun};
-ghost use Rattle.rows.specs.Word.{signBitOf, changeOf, scaledOf, nonzeroOf, signedOf, splitOf, Narrow, quadOf, storeQuad, Near, Runs, stepOf};
-ghost use Rattle.rows.specs.Course.{stateOf, filled, movedTo, Halted, Clean, Onward, Done};
+ghost use Rattle.rows.specs.Word.{signBitOf, changeOf, nonzeroOf, signedOf, quadOf, storeQuad, Near, Runs, stepOf};
+ghost use Rattle.rows.specs.Stretch.{stretchOf, within};
+ghost use Rattle.rows.specs.Course.{stateOf, filled, movedTo, Halted, Clean, Onward, OnwardAll, Done};
 use bits::BitReader;
 use bits::Four;
 use bits::Taken;
 use bits::bit_length;
 use bits::least;
 use bits::less;
+use words::after;
 use words::top;
-use words::whole;
+use words::window;
 use wrap32::cut32;
 
 // A coefficient, and the reader after it.
@@ -308,20 +310,43 @@ fn pick(t: bool, a: u64, b: u64) -> u64
     if t { a } else { b }
 }
 
+// A number under a bit: 0 keeps it, 1 negates it. It stands by itself so that it is compiled without a branch.
+fn turned(e: i64, bit: u64) -> i64
+    requires { ⌜ mag e < 2 ^ 62 ⌝ }
+    ensures { λ r. ⌜ r ≡ cond (eqb bit 0) e (negℤ e) ⌝ }
+{
+    if bit == 0 { e } else { -e }
+}
+
+// The width moved up (bit 0) or down (bit 1) by d, below 0 too.
+fn moved(width: u64, d: u64, bit: u64) -> i64
+    requires { ⌜ (width ≤ 12) × (d ≤ 65) ⌝ }
+    ensures { λ r. ⌜ r ≡ pos width +ℤ cond (eqb bit 0) (pos d) (negℤ (pos d)) ⌝ }
+{
+    (width as i64) + turned(d as i64, bit)
+}
+
+// A number, or 0 where it is below 0.
+fn above(y: i64) -> u64
+    ensures { λ r. ⌜ r ≡ cond (leZ y (pos 0)) 0 (natAbs y) ⌝ }
+{
+    if y <= 0 { 0 } else { y as u64 }
+}
+
 // A width update out of a word: the width, and the bits that it takes.
 fn changed(word: u64, width: u64) -> Change
     requires { ⌜ width ≤ 12 ⌝ }
     ensures { λ r. ⌜ r ≡ changeOf word width ⌝ }
     ensures { λ r. ⌜ r .used ≤ 67 ⌝ }
 {
-    let z = u64::leading_zeros(word << 2) as u64;
-    let up = word < 0xC000_0000_0000_0000;
-    let w = less(width + pick(up, z + 1, 0), pick(up, 0, z + 1));
-    let n = pick(up, z + 3, least(z + 3, width + 1));
+    let d = (u64::leading_zeros(word << 2) as u64) + 1;
+    let y = moved(width, d, (word >> 62) % 2);
+    let low = y <= 0;
+    let x = pick(low, width, d + 1);
     let keep = word < 0x8000_0000_0000_0000;
     Change {
-        width: pick(keep, width, w),
-        used: pick(keep, 1, n),
+        width: pick(keep, width, above(y)),
+        used: share(x, word) + 1,
     }
 }
 
@@ -332,14 +357,6 @@ fn nonzero(u: u64) -> u64
     if u == 0 { 0 } else { 1 }
 }
 
-// A magnitude as a number above or at 0.
-fn plus(m: u64) -> i32
-    requires { ⌜ m < 2 ^ 31 ⌝ }
-    ensures { λ r. ⌜ r ≡ pos m ⌝ }
-{
-    m as i32
-}
-
 // A magnitude where the first bit of a word is 1, else 0.
 fn share(m: u64, word: u64) -> u64
     ensures { λ r. ⌜ (r ≡ cond (ltb word (2 ^ 63)) 0 m) × (r ≤ m) ⌝ }
@@ -347,90 +364,38 @@ fn share(m: u64, word: u64) -> u64
     m * (word >> 63)
 }
 
-// A magnitude under the first bit of a word, without a branch.
-fn with_bit(m: u64, word: u64) -> i32
-    requires { ⌜ m < 2 ^ 31 ⌝ }
-    ensures { λ r. ⌜ r ≡ signedOf m word ⌝ }
+// A short magnitude under a sign bit. It stands by itself so that it is compiled without a branch.
+fn with_bit(m: u64, bit: u64) -> i32
+    requires { ⌜ m < 2 ^ 12 ⌝ }
+    ensures { λ r. ⌜ r ≡ signedOf m bit ⌝ }
 {
-    let t = share(m, word);
-    plus(m - t) - plus(t)
+    let z = m as i32;
+    if bit == 0 { z } else { -z }
 }
 
-// A short value under a selector above 0.
-fn scaled(u: u64, half: u64) -> u64
-    requires { ⌜ (u < 2 ^ 12) × (half < 15) ⌝ }
-    ensures { λ r. ⌜ (r ≡ scaledOf u (half + 1)) × (r < 2 ^ 31) ⌝ }
-{
-    ((2 * u + nonzero(u)) << half) - u % 2
-}
-
-// Four values of a word.
-pub struct Split {
-    pub a: u64,
-    pub b: u64,
-    pub c: u64,
-    pub d: u64,
-}
-
-// The last n bits.
-fn last(t: u64, n: u64) -> u64
-    requires { ⌜ n ≤ 12 ⌝ }
-    ensures { λ r. ⌜ (r ≡ t % 2 ^ n) × (r < 2 ^ 12) ⌝ }
-{
-    t % (1u64 << n)
-}
-
-// The four values at the front of a word.
-fn front(word: u64, width: u64) -> Split
-    requires { ⌜ (1 ≤ width) × (width ≤ 12) ⌝ }
-    ensures { λ r. ⌜ r ≡ splitOf word width ⌝ }
-    ensures { λ r. ⌜ Narrow r ⌝ }
-{
-    let t = word >> (64 - 4 * width);
-    let t1 = t >> width;
-    let t2 = t1 >> width;
-    Split {
-        a: t2 >> width,
-        b: last(t2, width),
-        c: last(t1, width),
-        d: last(t, width),
-    }
-}
-
-// Four values with their signs out of a word; the sign bits that they take.
+// Four values with their signs out of a word, of which `used` bits come before the signs; the sign bits that they take.
 fn quad(dst: &mut [i32], at: usize, word: u64, width: u64, used: u64) -> u64
     requires { ⌜ (at + 4 ≤ length (now dst)) × (1 ≤ width) × (width ≤ 12) × (used < 60) ⌝ }
     ensures { λ r. ⌜ now (dst .exit) ≡ storeQuad (now (dst .entry)) at (quadOf 0 word width used) ⌝ }
     ensures { λ r. ⌜ (r ≡ quadOf 0 word width used .used) × (r ≤ 4) ⌝ }
 {
-    let v = front(word, width);
-    let signs = word << used;
-    let n1 = nonzero(v.a);
-    let n2 = n1 + nonzero(v.b);
-    let n3 = n2 + nonzero(v.c);
-    dst[at] = with_bit(v.a, signs);
-    dst[at + 1] = with_bit(v.b, signs << n1);
-    dst[at + 2] = with_bit(v.c, signs << n2);
-    dst[at + 3] = with_bit(v.d, signs << n3);
-    n3 + nonzero(v.d)
-}
-
-// The same under a selector above 0.
-fn quad_scaled(dst: &mut [i32], at: usize, word: u64, width: u64, used: u64, half: u64) -> u64
-    requires { ⌜ (at + 4 ≤ length (now dst)) × (1 ≤ width) × (width ≤ 12) × (used < 60) × (half < 15) ⌝ }
-    ensures { λ r. ⌜ now (dst .exit) ≡ storeQuad (now (dst .entry)) at (quadOf (half + 1) word width used) ⌝ }
-    ensures { λ r. ⌜ (r ≡ quadOf (half + 1) word width used .used) × (r ≤ 4) ⌝ }
-{
-    let v = front(word, width);
-    let signs = word << used;
-    let n1 = nonzero(v.a);
-    let n2 = n1 + nonzero(v.b);
-    let n3 = n2 + nonzero(v.c);
-    dst[at] = with_bit(scaled(v.a, half), signs);
-    dst[at + 1] = with_bit(scaled(v.b, half), signs << n1);
-    dst[at + 2] = with_bit(scaled(v.c, half), signs << n2);
-    dst[at + 3] = with_bit(scaled(v.d, half), signs << n3);
-    n3 + nonzero(v.d)
+    let left = less(63, used);
+    let down = 64 - width;
+    let from_b = word << width;
+    let from_c = from_b << width;
+    let from_d = from_c << width;
+    let a = word >> down;
+    let b = from_b >> down;
+    let c = from_c >> down;
+    let d = from_d >> down;
+    let n1 = nonzero(a);
+    let n2 = n1 + nonzero(b);
+    let n3 = n2 + nonzero(c);
+    dst[at] = with_bit(a, (word >> left) % 2);
+    dst[at + 1] = with_bit(b, (word >> (left - n1)) % 2);
+    dst[at + 2] = with_bit(c, (word >> (left - n2)) % 2);
+    dst[at + 3] = with_bit(d, (word >> (left - n3)) % 2);
+    n3 + nonzero(d)
 }
 
 // Where the groups stopped that were decoded at one go.
@@ -440,11 +405,11 @@ pub struct Next {
     pub reader: BitReader,
 }
 
-// The place before which a word stands whole in the packet.
+// The place before which two words stand whole in the packet.
 fn edge(packet: &[u8]) -> u64
-    ensures { λ r. ⌜ r ≤ length (now (packet .entry)) * 8 - 63 ⌝ }
+    ensures { λ r. ⌜ r ≤ length (now (packet .entry)) * 8 - 127 ⌝ }
 {
-    less(least(packet.len() as u64, 0x100_0000_0000) * 8, 63)
+    less(least(packet.len() as u64, 0x100_0000_0000) * 8, 127)
 }
 
 // Whether a word is there to take a run or a short group of four columns from.
@@ -461,12 +426,12 @@ fn near(width: u64, out: usize, n: usize, place: u64, end: u64) -> bool
     place < end
 }
 
-// Whether so many bits are more than a word holds, or more than are left up to a place.
+// Whether so many bits are more than a word gives at one go, or more than are left up to a place.
 fn over(place: u64, used: u64, stop: u64) -> bool
     requires { ⌜ (place < 2 ^ 40) × (used < 2 ^ 40) ⌝ }
-    ensures { λ r. ⌜ (r ≡ false → (used ≤ 57) × (place + used ≤ stop)) ⌝ }
+    ensures { λ r. ⌜ (r ≡ false → (used ≤ 56) × (place + used ≤ stop)) ⌝ }
 {
-    if 57 < used {
+    if 56 < used {
         return true;
     }
     stop < place + used
@@ -534,22 +499,23 @@ fn arrived(reader: BitReader, place: u64, width: u64, out: usize) -> Next
     }
 }
 
-// Runs and groups out of single words, as long as each stands whole in its word; selector 0. The rest of the row is 0 already.
+// Runs and groups out of single words, as long as each stands whole in its word, under selector 0: what the row is under any selector, if
+// the coefficients are stretched by it. The rest of the row is 0 already. Each turn hands the next one its word.
 fn fast(reader: BitReader, packet: &[u8], width: u64, dst: &mut [i32], out: usize) -> Next
     requires { ⌜ Ready (now packet) reader ⌝ }
     requires { ⌜ (reader .status ≡ 0) × (length (now dst) < 2 ^ 32) × (out < length (now dst)) ⌝ }
     requires { ⌜ Clean (now dst) out ⌝ }
-    ensures { λ r. ⌜ Onward (now (packet .entry)) (0) (now (dst .entry)) out (stateOf width reader) (now (dst .exit)) (r .out) (stateOf (r .width) (r .reader)) ⌝ }
+    ensures { λ r. ⌜ OnwardAll (now (packet .entry)) (now (dst .entry)) out (stateOf width reader) (now (dst .exit)) (r .out) (stateOf (r .width) (r .reader)) ⌝ }
     ensures { λ r. ⌜ Done (now (packet .entry)) (length (now (dst .entry))) out width (r .out) (r .width) (r .reader) ⌝ }
 {
     let n = dst.len();
     let end = edge(packet);
     let stop = reader.place + reader.remaining;
     let mut place = reader.place;
+    let mut word = window(packet, place);
     let mut w = width;
     let mut i = out;
     while near(w, i, n, place, end) {
-        let word = whole(packet, place);
         if w == 0 {
             let h = run_word(word, ((n - i + 3) / 4) as u64);
             if over(place, h.used, stop) {
@@ -557,67 +523,62 @@ fn fast(reader: BitReader, packet: &[u8], width: u64, dst: &mut [i32], out: usiz
             }
             i = i + 4 * (h.groups as usize);
             w = h.width;
+            word = after(packet, place, h.used);
             place = place + h.used;
         } else {
             let u = step(word, w, n <= i + 4);
             if over(place, u.used + 4, stop) {
                 return arrived(reader, place, w, i);
             }
-            let signs = quad(dst, i, word, w, u.used);
-            place = place + u.used + signs;
+            let taken = u.used + quad(dst, i, word, w, u.used);
             w = u.width;
             i += 4;
+            word = after(packet, place, taken);
+            place = place + taken;
         }
     }
     arrived(reader, place, w, i)
 }
 
-// The same under the selector half + 1.
-fn fast_scaled(
-    reader: BitReader,
-    packet: &[u8],
-    width: u64,
-    half: u64,
-    dst: &mut [i32],
-    out: usize,
-) -> Next
-    requires { ⌜ Ready (now packet) reader ⌝ }
-    requires { ⌜ (reader .status ≡ 0) × (length (now dst) < 2 ^ 32) × (out < length (now dst)) × (half < 15) ⌝ }
-    requires { ⌜ Clean (now dst) out ⌝ }
-    ensures { λ r. ⌜ Onward (now (packet .entry)) (half + 1) (now (dst .entry)) out (stateOf width reader) (now (dst .exit)) (r .out) (stateOf (r .width) (r .reader)) ⌝ }
-    ensures { λ r. ⌜ Done (now (packet .entry)) (length (now (dst .entry))) out width (r .out) (r .width) (r .reader) ⌝ }
+// 1 for an odd number, else 0.
+fn odd(x: i32) -> i32
+    ensures { λ r. ⌜ r ≡ pos (natAbs x % 2) ⌝ }
 {
-    let n = dst.len();
-    let end = edge(packet);
-    let stop = reader.place + reader.remaining;
-    let mut place = reader.place;
-    let mut w = width;
-    let mut i = out;
-    while near(w, i, n, place, end) {
-        let word = whole(packet, place);
-        if w == 0 {
-            let h = run_word(word, ((n - i + 3) / 4) as u64);
-            if over(place, h.used, stop) {
-                return arrived(reader, place, w, i);
-            }
-            i = i + 4 * (h.groups as usize);
-            w = h.width;
-            place = place + h.used;
-        } else {
-            let u = step(word, w, n <= i + 4);
-            if over(place, u.used + 4, stop) {
-                return arrived(reader, place, w, i);
-            }
-            let signs = quad_scaled(dst, i, word, w, u.used, half);
-            place = place + u.used + signs;
-            w = u.width;
-            i += 4;
-        }
-    }
-    arrived(reader, place, w, i)
+    if x % 2 == 0 { 0 } else { 1 }
 }
 
-// The same under any selector.
+// A number where a test holds, else 0.
+fn kept(t: bool, h: i32) -> i32
+    ensures { λ r. ⌜ r ≡ cond t h (pos 0) ⌝ }
+{
+    if t { h } else { 0 }
+}
+
+// A coefficient of selector 0 under the selector.
+fn stretched(x: i32, selector: u64) -> i32
+    requires { ⌜ (0 < selector) × (selector < 16) ⌝ }
+    ensures { λ r. ⌜ r ≡ stretchOf selector x ⌝ }
+{
+    let h = (1i32 << (selector - 1)) - odd(x);
+    let p = kept(0 < x, h);
+    let q = kept(x < 0, h);
+    cut32(((x << selector) as i64) + (p as i64) - (q as i64))
+}
+
+// The coefficients from one element up to another under the selector, as far as the slice goes.
+fn stretch(dst: &mut [i32], from: usize, end: usize, selector: u64)
+    requires { ⌜ (0 < selector) × (selector < 16) ⌝ }
+    ensures { λ r. ⌜ now (dst .exit) ≡ within (stretchOf selector) (now (dst .entry)) from end ⌝ }
+{
+    let stop = lower(end, dst.len());
+    let mut i = from;
+    while i < stop {
+        dst[i] = stretched(dst[i], selector);
+        i += 1;
+    }
+}
+
+// Runs and groups out of single words, under any selector.
 fn quick(
     reader: BitReader,
     packet: &[u8],
@@ -632,10 +593,11 @@ fn quick(
     ensures { λ r. ⌜ Onward (now (packet .entry)) selector (now (dst .entry)) out (stateOf width reader) (now (dst .exit)) (r .out) (stateOf (r .width) (r .reader)) ⌝ }
     ensures { λ r. ⌜ Done (now (packet .entry)) (length (now (dst .entry))) out width (r .out) (r .width) (r .reader) ⌝ }
 {
-    if selector == 0 {
-        return fast(reader, packet, width, dst, out);
+    let far = fast(reader, packet, width, dst, out);
+    if selector != 0 {
+        stretch(dst, out, far.out, selector);
     }
-    fast_scaled(reader, packet, width, selector - 1, dst, out)
+    far
 }
 
 // One run or group as it is read. The rest of the row is 0 already.

@@ -40,12 +40,14 @@ pub fn window(s: &[u8], place: u64) -> u64
     load(s, i) << k
 }
 
-// The same where eight bytes stand from the place's byte on.
-pub fn whole(s: &[u8], place: u64) -> u64
-    requires { ⌜ place / 8 + 8 ≤ length (now s) ⌝ }
-    ensures { λ r. ⌜ r / 2 ^ 7 ≡ bitsAt (now (s .entry)) place 57 ⌝ }
+// The bits from n past a place on, in the same way, where sixteen bytes stand from the place's byte on. Both words are loaded before n is known.
+pub fn after(s: &[u8], place: u64, n: u64) -> u64
+    requires { ⌜ (place / 8 + 16 ≤ length (now s)) × (n ≤ 56) ⌝ }
+    ensures { λ r. ⌜ r / 2 ^ 7 ≡ bitsAt (now (s .entry)) (place + n) 57 ⌝ }
 {
-    load(s, (place / 8) as usize) << (place % 8)
+    let i = (place / 8) as usize;
+    let k = place % 8 + n;
+    (load(s, i) << k) + top(load(s, i + 8), k)
 }
 
 // The first n bits of a word.

@@ -5,9 +5,6 @@ use mathlib.Core.Path.{_≡_, refl, _∙_}
 use Prim.Native.Nat.{_-_, _+_}
 use Rattle.rows.proofs.arrived.Statement.{statement}
 use Rattle.rows.proofs.arrived.Tie as tie
-use Rattle.rows.proofs.arrived.Reads as reads
-use Rattle.rows.proofs.arrived.Lts as lts
-use Rattle.bits.proofs.BitReader.skip.Reads as skip-reads
 
 returns : tie.Need-returns
 returns c =

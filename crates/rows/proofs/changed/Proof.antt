@@ -1,64 +1,61 @@
 -- `changed` meets its contract. Assumes nothing.
 use borrow.Author.Needs.{needs}
 use native.Mathlib.Omega.{arith}
+use mathlib.Core.Path.{_≡_, refl}
+use mathlib.Core.Bool.{cond}
 use Prim.Native.Nat.{_+_, _*_, _%_, _^_, _≤_}
-use lib.Dec.{ltb}
+use lib.IntN.{pos}
+use lib.Signed.{leZ}
 use lib.Count.{leadingZeros, leading-le}
-use Rattle.rows.specs.Word.{changeOf}
+use mir.Syntax.{w64}
+use mir.Val.{SFits}
+use mir.Facts.{toZ-ofZ}
 use Rattle.rows.proofs.WordLaws.{cond-le}
+use Rattle.rows.proofs.WidthChange.{change-moved}
 use Rattle.rows.proofs.changed.Statement.{statement}
 use Rattle.rows.proofs.changed.Tie as tie
 
-cast-z : tie.Need-cast-z
-cast-z c = omega (arith, leading-le 64 (c .args .word * 2 ^ 2 % 2 ^ 64))
+few : (c : tie.Start) → leadingZeros 64 (c .args .word * 2 ^ 2 % 2 ^ 64) ≤ 64
+few c = leading-le 64 (c .args .word * 2 ^ 2 % 2 ^ 64)
 
-add-pick : tie.Need-add-pick
-add-pick c = omega (arith, leading-le 64 (c .args .word * 2 ^ 2 % 2 ^ 64))
+-- the bits of an update after its first
+taken : (c : tie.After-pick)
+    → (let a = c .before .before .args in
+    c .pick .result ≡ cond (leZ (c .before .moved .result) (pos 0)) (a .width) (leadingZeros 64 (a .word * 2 ^ 2 % 2 ^ 64) + 1 + 1))
+taken c =
+    let range : SFits w64 (c .before .moved .result) = search needs in
+    simp toZ-ofZ at (c .pick .ensures)
 
-add-less : tie.Need-add-less
-add-less c =
-    let word = c .before .args .word in
-    let z = leadingZeros 64 (word * 2 ^ 2 % 2 ^ 64) in
-    let most : z ≤ 64 = leading-le 64 (word * 2 ^ 2 % 2 ^ 64) in
-    let n : c .pick .result ≤ 65 = rw (c .pick .ensures) (cond-le (ltb word (2 ^ 63 + 2 ^ 62)) (z + 1) 0 65 (omega arith) (omega arith)) in
-    omega arith
-
-add-pick-2 : tie.Need-add-pick-2
-add-pick-2 c = omega (arith, leading-le 64 (c .before .args .word * 2 ^ 2 % 2 ^ 64))
-
-add-pick-3 : tie.Need-add-pick-3
-add-pick-3 c = omega (arith, leading-le 64 (c .before .before .before .args .word * 2 ^ 2 % 2 ^ 64))
-
-add-least : tie.Need-add-least
-add-least c = omega (arith, leading-le 64 (c .before .before .before .args .word * 2 ^ 2 % 2 ^ 64))
+used : (c : tie.After-share) → c .share .result ≤ 66
+used c =
+    let t = c .before .before .before in
+    let a = t .before .before .args in
+    let most : t .pick .result ≤ 66 = rw (taken t)
+    (cond-le (leZ (t .before .moved .result) (pos 0)) (a .width) (leadingZeros 64 (a .word * 2 ^ 2 % 2 ^ 64) + 1 + 1) 66 (omega arith) (omega (arith, few (t .before .before)))) in
+    omega (arith, most, c .share .ensures .1)
 
 returns : tie.Need-returns
-unfolding changeOf
 returns c =
-    let word = c .before .before .before .before .before .before .before .args .word in
-    let z = leadingZeros 64 (word * 2 ^ 2 % 2 ^ 64) in
-    let most : z ≤ 64 = leading-le 64 (word * 2 ^ 2 % 2 ^ 64) in
-    let n : c .before .before .pick3 .result ≤ 67 = rw (c .before .before .pick3 .ensures) (cond-le (ltb word (2 ^ 63 + 2 ^ 62)) (z + 3) (c .before .before .before .least .result) 67 (omega arith) (omega (arith, c .before .before .before .least .ensures .1 .0))) in (
-      simp (c .pick5 .ensures, c .before .pick4 .ensures, c .before .before .pick3 .ensures, c .before .before .before .least .ensures .0, c .before .before .before .before .less .ensures, c .before .before .before .before .before .pick2 .ensures, c .before .before .before .before .before .before .pick .ensures),
-      rw (c .pick5 .ensures) (cond-le (ltb word (2 ^ 63)) 1 (c .before .before .pick3 .result) 67 (omega arith) n),
+    let t = c .before .before .before in
+    let a = t .before .before .args in
+    let range : SFits w64 (t .before .moved .result) = search needs in
+    let left = simp toZ-ofZ at (c .before .before .above .ensures) in (
+      simp (c .before .pick2 .ensures, c .share .ensures .0, taken t, left, t .before .moved .ensures)
+          (change-moved (a .word) (a .width) (leadingZeros 64 (a .word * 2 ^ 2 % 2 ^ 64) + 1) (omega arith) refl),
+      omega (arith, used c),
     )
 
 pub changed-spec : {M : Type 1} → statement M
 changed-spec =
     tie.close
     (tie.spec
-    cast-z
-    add-pick
-    (λ c κs. search needs)
-    add-less
-    add-pick-2
-    (λ c κs. search needs)
-    (λ c κs. search needs)
-    add-pick-3
-    add-least
-    (λ c. search needs)
+    (λ c. omega (arith, few c))
+    (λ c. omega (arith, few c))
+    (λ c κs. (search needs, omega (arith, few c)))
+    (λ c. omega (arith, few (c .before)))
     (λ c κs. search needs)
     (λ c κs. search needs)
     (λ c κs. search needs)
     (λ c κs. search needs)
+    (λ c. omega (arith, used c))
     returns)

@@ -8,68 +8,71 @@ use Rattle.rows.proofs.fast.Statement.{statement}
 use Rattle.rows.proofs.fast.Tie as tie
 
 abbrev Inv-loop : tie.InvT-loop
-Inv-loop reader packet width dst₀ out n end stop place₀ w₀ i₀ dst place w i = Turn packet 0 dst₀ out width reader dst place w i
+Inv-loop reader packet width dst₀ out n end stop place₀ word₀ w₀ i₀ dst place word w i = Turn packet dst₀ out width reader dst place word w i
 
 abbrev μ-loop : tie.MeasureT-loop
-μ-loop reader packet width dst₀ out n end stop place₀ w₀ i₀ dst place w i = length dst₀ - i
+μ-loop reader packet width dst₀ out n end stop place₀ word₀ w₀ i₀ dst place word w i = length dst₀ - i
 
 add-stop : tie.Need-add-stop Inv-loop μ-loop
 add-stop c = omega (arith, c .before .before .before .pre .0 .room)
 
+window-requires : tie.Need-window-requires Inv-loop μ-loop
+window-requires c κs = c .before .before .before .pre .0 .size
+
 loop-holds : tie.Need-loop-holds Inv-loop μ-loop
 loop-holds c =
-    let a = c .before .before .before .args in
-    turn-first (a .packet .now) 0 (a .dst .now) (a .out) (a .width) (a .reader) (c .before .before .before .pre .0) (c .before .before .before .pre .1 .0 .0) (omega arith) (c .before .before .before .pre .1 .1)
+    let a = c .before .before .before .before .args in
+    turn-first (a .packet .now) (a .dst .now) (a .out) (a .width) (a .reader) (c .before .before .before .before .pre .0) (c .before .before .before .before .pre .1 .0 .0) (omega arith) (c .before .before .before .before .pre .1 .1) (c .window .result) (omega arith) (c .window .ensures)
 
 near-requires : tie.Need-near-requires Inv-loop μ-loop
-near-requires c κs = omega (arith, c .loop .inv .inside, c .before .before .before .before .pre .1 .0)
-
-whole-requires : tie.Need-whole-requires Inv-loop μ-loop
-whole-requires c κs = omega (arith, (c .before .near .ensures (c .if1 .taken)), c .before .before .before .before .edge .ensures)
+near-requires c κs = omega (arith, c .loop .inv .inside, c .before .before .before .before .before .pre .1 .0)
 
 sub-run-word : tie.Need-sub-run-word Inv-loop μ-loop
-sub-run-word c = omega (arith, (c .before .before .before .near .ensures (c .before .before .if1 .taken)))
+sub-run-word c = omega (arith, (c .before .before .near .ensures (c .before .if1 .taken)))
 
 add-run-word : tie.Need-add-run-word Inv-loop μ-loop
 add-run-word c = omega (arith, c .before .before .before .before .before .before .before .before .pre .1 .0)
 
 run-word-requires : tie.Need-run-word-requires Inv-loop μ-loop
-run-word-requires c κs = omega (arith, (c .before .before .before .near .ensures (c .before .before .if1 .taken)), c .before .before .before .before .before .before .before .before .pre .1 .0)
+run-word-requires c κs = omega (arith, (c .before .before .near .ensures (c .before .if1 .taken)), c .before .before .before .before .before .before .before .before .pre .1 .0)
 
 over-requires : tie.Need-over-requires Inv-loop μ-loop
-over-requires c κs = omega (arith, c .before .before .before .before .before .loop .inv .to, c .before .before .before .before .before .before .before .before .before .pre .0 .room, c .run-word .ensures .few)
+over-requires c κs = omega (arith, c .before .before .before .before .loop .inv .to, c .before .before .before .before .before .before .before .before .before .pre .0 .room, c .run-word .ensures .few)
 
 arrived-requires : tie.Need-arrived-requires Inv-loop μ-loop
 arrived-requires c κs =
-    let t = c .before .before .before .before .before .before .before .loop .inv in
+    let t = c .before .before .before .before .before .before .loop .inv in
     (t .from, t .to, c .before .before .before .before .before .before .before .before .before .before .before .pre .0 .room)
 
 same-length : tie.Need-same-length Inv-loop μ-loop
-same-length c = c .before .before .before .before .before .before .before .before .loop .inv .on .same
+same-length c = c .before .before .before .before .before .before .before .loop .inv .same
 
 returns : tie.Need-returns Inv-loop μ-loop
 returns c =
     let a = c .before .before .before .before .before .before .before .before .before .before .before .before .args in
-    let l = c .before .before .before .before .before .before .before .before .loop in
-    turn-last (a .packet .now) 0 (a .dst .now) (a .out) (a .width) (a .reader) (c .before .before .before .before .before .before .before .before .before .before .before .before .pre .0) (c .before .before .before .before .before .before .before .before .before .before .before .before .pre .1 .0 .0) (l .dst) (l .place) (l .w) (l .i) (l .inv) (c .arrived .result) (c .arrived .ensures)
+    let l = c .before .before .before .before .before .before .before .loop in
+    turn-last (a .packet .now) (a .dst .now) (a .out) (a .width) (a .reader) (c .before .before .before .before .before .before .before .before .before .before .before .before .pre .0) (c .before .before .before .before .before .before .before .before .before .before .before .before .pre .1 .0 .0) (l .dst) (l .place) (l .word) (l .w) (l .i) (l .inv) (c .arrived .result) (c .arrived .ensures)
 
 mul-i : tie.Need-mul-i Inv-loop μ-loop
 mul-i c = omega (arith, c .before .before .run-word .ensures .most, c .before .before .before .before .before .before .before .before .before .before .before .pre .1 .0)
 
 add-i : tie.Need-add-i Inv-loop μ-loop
-add-i c = omega (arith, c .before .before .run-word .ensures .most, c .before .before .before .before .before .before .before .loop .inv .inside, c .before .before .before .before .before .before .before .before .before .before .before .pre .1 .0)
+add-i c = omega (arith, c .before .before .run-word .ensures .most, c .before .before .before .before .before .before .loop .inv .inside, c .before .before .before .before .before .before .before .before .before .before .before .pre .1 .0)
+
+after-requires : tie.Need-after-requires Inv-loop μ-loop
+after-requires c κs = omega (arith, (c .before .before .before .before .before .near .ensures (c .before .before .before .before .if1 .taken)), c .before .before .before .before .before .before .before .before .before .edge .ensures, (c .before .over .ensures (c .if3 .left)))
 
 add-place : tie.Need-add-place Inv-loop μ-loop
-add-place c = omega (arith, c .before .before .before .before .before .before .before .before .loop .inv .to, c .before .before .before .before .before .before .before .before .before .before .before .before .pre .0 .room, c .before .before .before .run-word .ensures .few)
+add-place c = omega (arith, c .before .before .before .before .before .before .before .before .loop .inv .to, c .before .before .before .before .before .before .before .before .before .before .before .before .before .pre .0 .room, c .before .before .before .before .run-word .ensures .few)
 
 -- the turn of a run
-ran : (c : tie.After-struct-known2 Inv-loop μ-loop) → (0 < c .before .before .before .run-word .result .groups)
-    × Turn (c .before .before .before .before .before .before .before .before .before .before .before .before .args .packet .now) 0 (c .before .before .before .before .before .before .before .before .before .before .before .before .args .dst .now) (c .before .before .before .before .before .before .before .before .before .before .before .before .args .out) (c .before .before .before .before .before .before .before .before .before .before .before .before .args .width) (c .before .before .before .before .before .before .before .before .before .before .before .before .args .reader) (c .before .before .before .before .before .before .before .before .loop .dst) (c .before .before .before .before .before .before .before .before .loop .place + c .before .before .before .run-word .result .used) (c .before .before .before .run-word .result .width) (c .before .before .before .before .before .before .before .before .loop .i + 4 * c .before .before .before .run-word .result .groups)
+ran : (c : tie.After-struct-known2 Inv-loop μ-loop) → (0 < c .before .before .before .before .run-word .result .groups)
+    × Turn (c .before .before .before .before .before .before .before .before .before .before .before .before .before .args .packet .now) (c .before .before .before .before .before .before .before .before .before .before .before .before .before .args .dst .now) (c .before .before .before .before .before .before .before .before .before .before .before .before .before .args .out) (c .before .before .before .before .before .before .before .before .before .before .before .before .before .args .width) (c .before .before .before .before .before .before .before .before .before .before .before .before .before .args .reader) (c .before .before .before .before .before .before .before .before .loop .dst) (c .before .before .before .before .before .before .before .before .loop .place + c .before .before .before .before .run-word .result .used) (c .before .after .result) (c .before .before .before .before .run-word .result .width) (c .before .before .before .before .before .before .before .before .loop .i + 4 * c .before .before .before .before .run-word .result .groups)
 ran c =
-    let a = c .before .before .before .before .before .before .before .before .before .before .before .before .args in
+    let a = c .before .before .before .before .before .before .before .before .before .before .before .before .before .args in
     let l = c .before .before .before .before .before .before .before .before .loop in
-    turn-run (a .packet .now) 0 (a .dst .now) (a .out) (a .width) (a .reader) (c .before .before .before .before .before .before .before .before .before .before .before .before .pre .0) (c .before .before .before .before .before .before .before .before .before .before .before .before .pre .1 .0 .0) (l .dst) (l .place) (l .w) (l .i) (l .inv) (c .before .before .before .before .before .whole .result) (omega arith) (c .before .before .before .before .before .whole .ensures) ((c .before .before .before .before .before .before .before .near .ensures (c .before .before .before .before .before .before .if1 .taken)) .more)
-    (c .before .before .before .before .if2 .taken) (c .before .before .before .run-word .result) (c .before .before .before .run-word .ensures) (c .before .before .over .ensures (c .before .if3 .left))
+    turn-run (a .packet .now) (a .dst .now) (a .out) (a .width) (a .reader) (c .before .before .before .before .before .before .before .before .before .before .before .before .before .pre .0) (c .before .before .before .before .before .before .before .before .before .before .before .before .before .pre .1 .0 .0) (l .dst) (l .place) (l .w) (l .i) (l .word) (l .inv) ((c .before .before .before .before .before .before .before .near .ensures (c .before .before .before .before .before .before .if1 .taken)) .more) (c .before .after .result) (omega arith)
+    (c .before .before .before .before .before .if2 .taken) (c .before .before .before .before .run-word .result) (c .before .before .before .before .run-word .ensures) (c .before .before .before .over .ensures (c .before .before .if3 .left)) (c .before .after .ensures)
 
 loop-less : tie.Need-loop-less Inv-loop μ-loop
 loop-less c = omega (arith, ran c .0, (c .before .before .before .before .before .before .before .near .ensures (c .before .before .before .before .before .before .if1 .taken)))
@@ -78,67 +81,70 @@ loop-again : tie.Need-loop-again Inv-loop μ-loop
 loop-again c = ran c .1
 
 add-step : tie.Need-add-step Inv-loop μ-loop
-add-step c = omega (arith, c .before .before .before .before .loop .inv .inside, c .before .before .before .before .before .before .before .before .pre .1 .0)
+add-step c = omega (arith, c .before .before .before .loop .inv .inside, c .before .before .before .before .before .before .before .before .pre .1 .0)
 
 step-requires : tie.Need-step-requires Inv-loop μ-loop
-step-requires c κs = omega (arith, (c .before .before .before .near .ensures (c .before .before .if1 .taken)))
+step-requires c κs = omega (arith, (c .before .before .near .ensures (c .before .if1 .taken)))
 
 add-over : tie.Need-add-over Inv-loop μ-loop
 add-over c = omega (arith, c .before .step .ensures .1)
 
 over-requires-2 : tie.Need-over-requires-2 Inv-loop μ-loop
-over-requires-2 c κs = omega (arith, c .before .before .before .before .before .before .loop .inv .to, c .before .before .before .before .before .before .before .before .before .before .pre .0 .room, c .before .step .ensures .1)
+over-requires-2 c κs = omega (arith, c .before .before .before .before .before .loop .inv .to, c .before .before .before .before .before .before .before .before .before .before .pre .0 .room, c .before .step .ensures .1)
 
 arrived-requires-2 : tie.Need-arrived-requires-2 Inv-loop μ-loop
 arrived-requires-2 c κs =
-    let t = c .before .before .before .before .before .before .before .before .loop .inv in
+    let t = c .before .before .before .before .before .before .before .loop .inv in
     (t .from, t .to, c .before .before .before .before .before .before .before .before .before .before .before .before .pre .0 .room)
 
 same-length-2 : tie.Need-same-length-2 Inv-loop μ-loop
-same-length-2 c = c .before .before .before .before .before .before .before .before .before .loop .inv .on .same
+same-length-2 c = c .before .before .before .before .before .before .before .before .loop .inv .same
 
 returns-2 : tie.Need-returns-2 Inv-loop μ-loop
 returns-2 c =
     let a = c .before .before .before .before .before .before .before .before .before .before .before .before .before .args in
-    let l = c .before .before .before .before .before .before .before .before .before .loop in
-    turn-last (a .packet .now) 0 (a .dst .now) (a .out) (a .width) (a .reader) (c .before .before .before .before .before .before .before .before .before .before .before .before .before .pre .0) (c .before .before .before .before .before .before .before .before .before .before .before .before .before .pre .1 .0 .0) (l .dst) (l .place) (l .w) (l .i) (l .inv) (c .arrived2 .result) (c .arrived2 .ensures)
+    let l = c .before .before .before .before .before .before .before .before .loop in
+    turn-last (a .packet .now) (a .dst .now) (a .out) (a .width) (a .reader) (c .before .before .before .before .before .before .before .before .before .before .before .before .before .pre .0) (c .before .before .before .before .before .before .before .before .before .before .before .before .before .pre .1 .0 .0) (l .dst) (l .place) (l .word) (l .w) (l .i) (l .inv) (c .arrived2 .result) (c .arrived2 .ensures)
 
 quad-requires : tie.Need-quad-requires Inv-loop μ-loop
-quad-requires c κs = omega (arith, (c .before .before .before .before .before .before .before .before .near .ensures (c .before .before .before .before .before .before .before .if1 .taken)), c .before .before .before .before .before .before .before .before .before .loop .inv .on .same, c .before .before .before .before .before .if2 .left, c .before .before .over2 .ensures (c .before .if4 .left), c .before .before .before .before .before .before .before .before .before .before .before .before .before .pre .1 .0)
+quad-requires c κs = omega (arith, (c .before .before .before .before .before .before .before .near .ensures (c .before .before .before .before .before .before .if1 .taken)), c .before .before .before .before .before .before .before .before .loop .inv .same, c .before .before .before .before .before .if2 .left, (c .before .before .over2 .ensures (c .before .if4 .left)), c .before .before .before .before .before .before .before .before .before .before .before .before .before .pre .1 .0)
 
-add-place-2 : tie.Need-add-place-2 Inv-loop μ-loop
-add-place-2 c = omega (arith, c .before .before .before .before .before .before .before .before .before .before .before .before .loop .inv .to, c .before .before .before .before .before .before .before .before .before .before .before .before .before .before .before .before .pre .0 .room, c .before .before .before .before .before .before .before .step .ensures .1)
-
-add-place-3 : tie.Need-add-place-3 Inv-loop μ-loop
-add-place-3 c = omega (arith, c .before .before .before .before .before .before .before .before .before .before .before .before .loop .inv .to, c .before .before .before .before .before .before .before .before .before .before .before .before .before .before .before .before .pre .0 .room, c .before .before .before .before .before .before .before .step .ensures .1, c .before .before .quad .ensures .1 .1)
+add-taken : tie.Need-add-taken Inv-loop μ-loop
+add-taken c = omega (arith, c .before .before .before .before .before .before .before .step .ensures .1, c .before .before .quad .ensures .1 .1)
 
 add-i-2 : tie.Need-add-i-2 Inv-loop μ-loop
-add-i-2 c = omega (arith, c .before .before .before .before .before .before .before .before .before .before .before .before .loop .inv .inside, c .before .before .before .before .before .before .before .before .before .before .before .before .before .before .before .before .pre .1 .0)
+add-i-2 c = omega (arith, c .before .before .before .before .before .before .before .before .before .before .before .loop .inv .inside, c .before .before .before .before .before .before .before .before .before .before .before .before .before .before .before .before .pre .1 .0)
+
+after-requires-2 : tie.Need-after-requires-2 Inv-loop μ-loop
+after-requires-2 c κs = omega (arith, (c .before .before .before .before .before .before .before .before .before .before .near .ensures (c .before .before .before .before .before .before .before .before .before .if1 .taken)), c .before .before .before .before .before .before .before .before .before .before .before .before .before .before .edge .ensures, (c .before .before .before .before .before .over2 .ensures (c .before .before .before .before .if4 .left)), c .before .before .quad .ensures .1 .1)
+
+add-place-2 : tie.Need-add-place-2 Inv-loop μ-loop
+add-place-2 c = omega (arith, c .before .before .before .before .before .before .before .before .before .before .before .before .loop .inv .to, c .before .before .before .before .before .before .before .before .before .before .before .before .before .before .before .before .before .pre .0 .room, (c .before .before .before .before .before .before .over2 .ensures (c .before .before .before .before .before .if4 .left)), c .before .before .before .quad .ensures .1 .1)
 
 loop-less-2 : tie.Need-loop-less-2 Inv-loop μ-loop
 loop-less-2 c = omega (arith, (c .before .before .before .before .before .before .before .before .before .before .before .near .ensures (c .before .before .before .before .before .before .before .before .before .before .if1 .taken)))
 
 loop-again-2 : tie.Need-loop-again-2 Inv-loop μ-loop
 loop-again-2 c =
-    let a = c .before .before .before .before .before .before .before .before .before .before .before .before .before .before .before .before .args in
+    let a = c .before .before .before .before .before .before .before .before .before .before .before .before .before .before .before .before .before .args in
     let l = c .before .before .before .before .before .before .before .before .before .before .before .before .loop in
-    let v = c .before .before .quad in
-    turn-group (a .packet .now) 0 (a .dst .now) (a .out) (a .width) (a .reader) (c .before .before .before .before .before .before .before .before .before .before .before .before .before .before .before .before .pre .0) (c .before .before .before .before .before .before .before .before .before .before .before .before .before .before .before .before .pre .1 .0 .0) (l .dst) (l .place) (l .w) (l .i) (l .inv) (c .before .before .before .before .before .before .before .before .before .whole .result) (omega arith) (c .before .before .before .before .before .before .before .before .before .whole .ensures) ((c .before .before .before .before .before .before .before .before .before .before .before .near .ensures (c .before .before .before .before .before .before .before .before .before .before .if1 .taken)) .more)
-    (omega (arith, c .before .before .before .before .before .before .before .before .if2 .left)) ((c .before .before .before .before .before .before .before .before .before .before .before .near .ensures (c .before .before .before .before .before .before .before .before .before .before .if1 .taken)) .short) (omega (arith, c .before .before .before .before .before .before .before .before .before .before .before .before .before .before .before .before .pre .1 .0)) (c .before .before .before .before .before .before .before .step .result) (c .before .before .before .before .before .before .before .step .ensures .0) (c .before .before .before .before .before .over2 .ensures (c .before .before .before .before .if4 .left)) (v .last .0) (v .result) (v .ensures .0) (v .ensures .1 .0) (v .ensures .1 .1)
+    let v = c .before .before .before .quad in
+    turn-group (a .packet .now) (a .dst .now) (a .out) (a .width) (a .reader) (c .before .before .before .before .before .before .before .before .before .before .before .before .before .before .before .before .before .pre .0) (c .before .before .before .before .before .before .before .before .before .before .before .before .before .before .before .before .before .pre .1 .0 .0) (l .dst) (l .place) (l .w) (l .i) (l .word) (l .inv) ((c .before .before .before .before .before .before .before .before .before .before .before .near .ensures (c .before .before .before .before .before .before .before .before .before .before .if1 .taken)) .more) (c .after2 .result) (omega arith)
+    (omega (arith, c .before .before .before .before .before .before .before .before .before .if2 .left)) ((c .before .before .before .before .before .before .before .before .before .before .before .near .ensures (c .before .before .before .before .before .before .before .before .before .before .if1 .taken)) .short) (c .before .before .before .before .before .before .before .before .step .result) (c .before .before .before .before .before .before .before .before .step .ensures .0) (c .before .before .before .before .before .before .over2 .ensures (c .before .before .before .before .before .if4 .left)) (v .last .0) (v .result) (v .ensures .0) (v .ensures .1 .0) (v .ensures .1 .1) (c .after2 .ensures)
 
 arrived-requires-3 : tie.Need-arrived-requires-3 Inv-loop μ-loop
 arrived-requires-3 c κs =
     let t = c .before .before .loop .inv in
-    (t .from, t .to, c .before .before .before .before .before .before .pre .0 .room)
+    (t .from, t .to, c .before .before .before .before .before .before .before .pre .0 .room)
 
 same-length-3 : tie.Need-same-length-3 Inv-loop μ-loop
-same-length-3 c = c .before .before .before .loop .inv .on .same
+same-length-3 c = c .before .before .before .loop .inv .same
 
 returns-3 : tie.Need-returns-3 Inv-loop μ-loop
 returns-3 c =
-    let a = c .before .before .before .before .before .before .before .args in
+    let a = c .before .before .before .before .before .before .before .before .args in
     let l = c .before .before .before .loop in
-    turn-last (a .packet .now) 0 (a .dst .now) (a .out) (a .width) (a .reader) (c .before .before .before .before .before .before .before .pre .0) (c .before .before .before .before .before .before .before .pre .1 .0 .0) (l .dst) (l .place) (l .w) (l .i) (l .inv) (c .arrived3 .result) (c .arrived3 .ensures)
+    turn-last (a .packet .now) (a .dst .now) (a .out) (a .width) (a .reader) (c .before .before .before .before .before .before .before .before .pre .0) (c .before .before .before .before .before .before .before .before .pre .1 .0 .0) (l .dst) (l .place) (l .word) (l .w) (l .i) (l .inv) (c .arrived3 .result) (c .arrived3 .ensures)
 
 pub fast-spec : {M : Type 1} → statement M
 fast-spec =
@@ -148,9 +154,9 @@ fast-spec =
     μ-loop
     (λ c κs. search needs)
     add-stop
+    window-requires
     loop-holds
     near-requires
-    whole-requires
     sub-run-word
     add-run-word
     run-word-requires
@@ -160,6 +166,7 @@ fast-spec =
     returns
     mul-i
     add-i
+    after-requires
     add-place
     loop-less
     loop-again
@@ -171,9 +178,10 @@ fast-spec =
     same-length-2
     returns-2
     quad-requires
-    add-place-2
-    add-place-3
+    add-taken
     add-i-2
+    after-requires-2
+    add-place-2
     loop-less-2
     loop-again-2
     arrived-requires-3

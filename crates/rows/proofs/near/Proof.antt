@@ -4,8 +4,6 @@ use mathlib.Core.Bool.{true≢false}
 use mathlib.Core.Path.{sym}
 use Rattle.rows.proofs.near.Statement.{statement}
 use Rattle.rows.proofs.near.Tie as tie
-use Rattle.rows.proofs.near.Reads as reads
-use Rattle.rows.proofs.near.Lts as lts
 
 returns : tie.Need-returns
 returns c = λ e. absurd (true≢false (sym e))

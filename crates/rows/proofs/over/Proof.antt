@@ -3,8 +3,6 @@ use borrow.Author.Needs.{needs}
 use mathlib.Core.Bool.{true≢false}
 use Rattle.rows.proofs.over.Statement.{statement}
 use Rattle.rows.proofs.over.Tie as tie
-use Rattle.rows.proofs.over.Reads as reads
-use Rattle.rows.proofs.over.Lts as lts
 
 returns : tie.Need-returns
 returns c = λ e. absurd (true≢false e)

@@ -3,13 +3,26 @@ use borrow.Author.Needs.{needs}
 use native.Mathlib.Omega.{arith}
 use lib.ListN.{length-set}
 use mathlib.Core.Path.{_∙_}
+use Prim.Native.Nat.{_*_, _%_, _^_}
 use mir.Syntax.{w32}
 use mir.Val.{SFits}
 use mir.ValLaws.{toZ-ofZ}
-use Rattle.rows.specs.Word.{quadOf}
-use Rattle.rows.proofs.WordLaws.{scaled-zero}
+use Rattle.rows.specs.Word.{splitOf, quadOf}
+use Rattle.rows.proofs.WordLaws.{scaled-zero, front-lt}
 use Rattle.rows.proofs.quad.Statement.{statement}
 use Rattle.rows.proofs.quad.Tie as tie
+
+with-bit-requires : tie.Need-with-bit-requires
+with-bit-requires c κs = let a = c .before .before .before .before .args in front-lt (a .word) (a .width) (omega arith) (omega arith)
+
+with-bit-requires-2 : tie.Need-with-bit-requires-2
+with-bit-requires-2 c κs = let a = c .before .before .before .before .before .args in front-lt (a .word * 2 ^ a .width % 2 ^ 64) (a .width) (omega arith) (omega arith)
+
+with-bit-requires-3 : tie.Need-with-bit-requires-3
+with-bit-requires-3 c κs = let a = c .before .before .before .before .before .before .args in front-lt (a .word * 2 ^ a .width % 2 ^ 64 * 2 ^ a .width % 2 ^ 64) (a .width) (omega arith) (omega arith)
+
+with-bit-requires-4 : tie.Need-with-bit-requires-4
+with-bit-requires-4 c κs = let a = c .before .before .before .before .before .before .before .args in front-lt (a .word * 2 ^ a .width % 2 ^ 64 * 2 ^ a .width % 2 ^ 64 * 2 ^ a .width % 2 ^ 64) (a .width) (omega arith) (omega arith)
 
 slice-set-from-dst-2 : tie.Need-slice-set-from-dst-2
 slice-set-from-dst-2 c = simp length-set (omega arith)
@@ -21,7 +34,7 @@ slice-set-from-dst-4 : tie.Need-slice-set-from-dst-4
 slice-set-from-dst-4 c = simp length-set (omega arith)
 
 returns : tie.Need-returns
-unfolding quadOf
+unfolding quadOf splitOf
 returns c =
     let range1 : SFits w32 (c .before .before .before .before .with-bit .result) = search needs in
     let range2 : SFits w32 (c .before .before .before .with-bit2 .result) = search needs in
@@ -36,10 +49,10 @@ returns c =
         c .before .before .before .before .before .before .nonzero2 .ensures .0,
         c .before .before .before .before .before .nonzero3 .ensures .0,
         c .nonzero4 .ensures .0,
+        c .before .before .before .before .before .before .before .before .less .ensures,
         scaled-zero,
-        c .before .before .before .before .before .before .before .before .front .ensures .0,
       ),
-      (simp (c .before .before .before .before .before .before .before .nonzero .ensures .0, c .before .before .before .before .before .before .nonzero2 .ensures .0, c .before .before .before .before .before .nonzero3 .ensures .0, c .nonzero4 .ensures .0, c .before .before .before .before .before .before .before .before .front .ensures .0), omega (arith, c .before .before .before .before .before .before .before .nonzero .ensures .1, c .before .before .before .before .before .before .nonzero2 .ensures .1, c .before .before .before .before .before .nonzero3 .ensures .1, c .nonzero4 .ensures .1)),
+      (simp (c .before .before .before .before .before .before .before .nonzero .ensures .0, c .before .before .before .before .before .before .nonzero2 .ensures .0, c .before .before .before .before .before .nonzero3 .ensures .0, c .nonzero4 .ensures .0), omega (arith, c .before .before .before .before .before .before .before .nonzero .ensures .1, c .before .before .before .before .before .before .nonzero2 .ensures .1, c .before .before .before .before .before .nonzero3 .ensures .1, c .nonzero4 .ensures .1)),
     )
 
 pub quad-spec : {M : Type 1} → statement M
@@ -48,26 +61,37 @@ quad-spec =
     (tie.spec
     (λ c κs. search needs)
     (λ c. search needs)
+    (λ c. search needs)
+    (λ c. search needs)
+    (λ c. search needs)
+    (λ c. search needs)
+    (λ c. search needs)
+    (λ c. search needs)
+    (λ c. search needs)
     (λ c κs. search needs)
     (λ c κs. search needs)
     (λ c. search needs)
     (λ c κs. search needs)
     (λ c. search needs)
-    (λ c κs. search needs)
+    (λ c. search needs)
+    with-bit-requires
     (λ c. search needs)
     (λ c. search needs)
     (λ c. search needs)
-    (λ c κs. search needs)
+    (λ c. search needs)
+    with-bit-requires-2
     (λ c. search needs)
     (λ c. search needs)
     slice-set-from-dst-2
     (λ c. search needs)
-    (λ c κs. search needs)
+    (λ c. search needs)
+    with-bit-requires-3
     (λ c. search needs)
     (λ c. search needs)
     slice-set-from-dst-3
     (λ c. search needs)
-    (λ c κs. search needs)
+    (λ c. search needs)
+    with-bit-requires-4
     (λ c. search needs)
     (λ c. search needs)
     slice-set-from-dst-4

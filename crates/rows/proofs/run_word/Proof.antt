@@ -8,9 +8,6 @@ use Rattle.rows.proofs.RunWord.{length-le, lead-lt, run-all, run-end, r
 use Rattle.rows.proofs.run_word.Statement.{statement}
 use Rattle.rows.proofs.run_word.Tie as tie
 use Rattle.rows.proofs.run_word.Reads as reads
-use Rattle.rows.proofs.run_word.Lts as lts
-use Rattle.bits.proofs.bit_length.Reads as bit-length-reads
-use Rattle.words.proofs.top.Reads as top-reads
 
 -- the most zeros are few
 short : (c : tie.After-bit-length) → c .bit-length .result ≤ 31

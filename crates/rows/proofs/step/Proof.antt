@@ -5,10 +5,6 @@ use Prim.Native.Nat.{_≤_}
 use Rattle.rows.proofs.WordLaws.{cond-le}
 use Rattle.rows.proofs.step.Statement.{statement}
 use Rattle.rows.proofs.step.Tie as tie
-use Rattle.rows.proofs.step.Reads as reads
-use Rattle.rows.proofs.step.Lts as lts
-use Rattle.rows.proofs.changed.Reads as changed-reads
-use Rattle.rows.proofs.pick.Reads as pick-reads
 
 -- the bits of the update
 taken : (c : tie.After-pick) → c .pick .result ≤ 67

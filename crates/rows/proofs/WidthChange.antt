@@ -1,0 +1,89 @@
+-- Laws of a width update that is reckoned below 0 too. Assumes nothing.
+use borrow.Author.Tests.{eq-eqb, ne-eqb, lt-ltb, le-ltb, le-leb, lt-leb}
+use mathlib.Core.Path.{_≡_, ap}
+use mathlib.Core.Bool.{Bool, true, false, cond, true≢false}
+use mathlib.Core.Logic.{⊎-elim}
+use Prim.Native.Nat.{ℕ, zero, suc, _+_, _-_, _*_, _/_, _%_, _^_, _<_, _≤_, min}
+use native.Mathlib.Omega.{arith}
+use lib.Count.{leadingZeros}
+use lib.Dec.{T, ltb, eqb}
+use lib.IntN.{ℤ, pos, negsuc, negℤ, natAbs, _+ℤ_, _-ℤ_}
+use lib.Signed.{leZ, nonNeg, mag}
+use mir.Syntax.{w64}
+use mir.Val.{Fits, SFits}
+use Rattle.format.proofs.BitLaws.{le-or-lt}
+use Rattle.rows.specs.declared.Change.{Change}
+use Rattle.rows.specs.Word.{changeOf}
+
+-- what is far from the ends of its range can be negated
+pub turned-fits : (e : ℤ) → mag e < 2 ^ 62 → SFits w64 (negℤ e)
+turned-fits (pos zero) h = record { sfits = omega arith }
+turned-fits (pos (suc n)) h = record { sfits = omega arith }
+turned-fits (negsuc n) h = record { sfits = omega arith }
+
+-- what is above 0 is a magnitude
+pub above-cast : (y : ℤ) → leZ y (pos 0) ≡ false → SFits w64 y → T (nonNeg y) × Fits w64 (natAbs y)
+above-cast (pos n) e f = (tt, record { fits = omega (arith, f .sfits) })
+above-cast (negsuc n) e f = absurd (true≢false e)
+
+-- a difference of two numbers, by which is the greater
+less-some : (w d : ℕ) → d ≤ w → pos w -ℤ pos d ≡ pos (w - d)
+less-some w zero h = ap pos (omega arith)
+less-some w (suc n) h = simp (le-ltb w (suc n) h)
+
+less-none : (w d : ℕ) → w < d → pos w -ℤ pos d ≡ negsuc (d - suc w)
+less-none w zero h = absurd (omega arith)
+less-none w (suc n) h = simp (lt-ltb w (suc n) h)
+
+less-low : (w d : ℕ) → w ≤ d → leZ (pos w -ℤ pos d) (pos 0) ≡ true
+less-low w d h =
+    ⊎-elim (λ (le : d ≤ w). simp (less-some w d le) (le-leb (w - d) 0 (omega arith))) (λ (lt : w < d). simp (less-none w d lt)) (le-or-lt d w)
+
+-- a short width moved by few
+pub moved-fits : (t : Bool) (w d : ℕ) → w ≤ 12 → d ≤ 65 → SFits w64 (pos w +ℤ cond t (pos d) (negℤ (pos d)))
+moved-fits true w d h k = record { sfits = omega arith }
+moved-fits false w d h k =
+    ⊎-elim (λ (le : d ≤ w). rw (less-some w d le) (record { sfits = omega arith })) (λ (lt : w < d). rw (less-none w d lt) (record { sfits = omega arith }))
+    (le-or-lt d w)
+
+-- a width update out of a word, by the width moved below 0 too
+module _ (word w d : ℕ) (fits : word < 2 ^ 64) (count : d ≡ leadingZeros 64 (word * 2 ^ 2 % 2 ^ 64) + 1) where
+  abbrev z : ℕ
+  z = leadingZeros 64 (word * 2 ^ 2 % 2 ^ 64)
+
+  abbrev target : ℤ
+  target = pos w +ℤ cond (eqb (word / 2 ^ 62 % 2) 0) (pos d) (negℤ (pos d))
+
+  abbrev reckoned : Change
+  reckoned =
+      record {
+        width = cond (ltb word (2 ^ 63)) w (cond (leZ target (pos 0)) 0 (natAbs target));
+        used = cond (ltb word (2 ^ 63)) 0 (cond (leZ target (pos 0)) w (d + 1)) + 1;
+      }
+
+  pub change-moved : reckoned ≡ changeOf word w
+  unfolding changeOf
+  change-moved =
+      ⊎-elim
+      (λ (high : 2 ^ 63 ≤ word).
+      ⊎-elim
+      (λ (down : 2 ^ 63 + 2 ^ 62 ≤ word).
+      let one = ne-eqb (word / 2 ^ 62 % 2) 0 (λ e. omega arith) in
+      ⊎-elim
+      (λ (none : w ≤ d).
+      let left : w + 0 - (z + 1) ≡ 0 = omega arith in
+      let few : min (z + 3) (w + 1) ≡ w + 1 = omega arith in
+      simp (le-ltb word (2 ^ 63) high, le-ltb word (2 ^ 63 + 2 ^ 62) down, one, less-low w d none, left, few))
+      (λ (some : d < w).
+      let left : w + 0 - (z + 1) ≡ w - d = omega arith in
+      let few : min (z + 3) (w + 1) ≡ d + 1 + 1 = omega arith in
+      simp (le-ltb word (2 ^ 63) high, le-ltb word (2 ^ 63 + 2 ^ 62) down, one, less-some w d (omega arith), lt-leb (w - d) 0 (omega arith), left, few))
+      (le-or-lt w d))
+      (λ (up : word < 2 ^ 63 + 2 ^ 62).
+      let bit = eq-eqb (word / 2 ^ 62 % 2) 0 (omega arith) in
+      let more : w + (z + 1) - 0 ≡ w + d = omega arith in
+      let all : z + 3 ≡ d + 1 + 1 = omega arith in
+      simp (le-ltb word (2 ^ 63) high, lt-ltb word (2 ^ 63 + 2 ^ 62) up, bit, lt-leb (w + d) 0 (omega arith), more, all))
+      (le-or-lt (2 ^ 63 + 2 ^ 62) word))
+      (λ (keep : word < 2 ^ 63). simp (lt-ltb word (2 ^ 63) keep))
+      (le-or-lt (2 ^ 63) word)
