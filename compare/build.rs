@@ -1,4 +1,4 @@
-//! Links the proved library, unless the feature `mock` stands in for it.
+//! Links the proved libraries, unless the feature `mock` stands in for them.
 
 use std::path::PathBuf;
 
@@ -9,13 +9,15 @@ fn main() {
     }
     let folder =
         std::env::var_os("ARW6_LIB_DIR").map_or_else(|| PathBuf::from("../target/staticlib"), PathBuf::from);
-    let library = folder.join("libarw6.a");
-    println!("cargo::rerun-if-changed={}", library.display());
-    if !library.is_file() {
-        println!("cargo::error=run rt staticlib arw6 first: {} is not there", library.display());
-        return;
+    for name in ["arw6", "coefficients"] {
+        let library = folder.join(format!("lib{name}.a"));
+        println!("cargo::rerun-if-changed={}", library.display());
+        if !library.is_file() {
+            println!("cargo::error=run rt staticlib {name} first: {} is not there", library.display());
+            return;
+        }
+        println!("cargo::rustc-link-lib=static={name}");
     }
-    let folder = folder.canonicalize().expect("the library's folder");
+    let folder = folder.canonicalize().expect("the libraries' folder");
     println!("cargo::rustc-link-search=native={}", folder.display());
-    println!("cargo::rustc-link-lib=static=arw6");
 }

@@ -1,21 +1,23 @@
-//! The command `bench`: thread CPU time of whole tiles, the original in serial order and ours.
+//! The command `bench`: thread CPU time of whole tiles and of their coefficients alone, the
+//! original in serial order and ours.
 
-use crate::faults::empty_stream;
-use crate::original::decode_stream;
+use crate::oracle::packet_coefficients;
+use crate::original::{decode_stream, packet_planes, parse_directory, DirEntry, Plane};
 use crate::ours::{Decoder, Slices};
 use crate::records::Recipe;
 use crate::rng::Rng;
 use crate::size::Size;
-use crate::streams::{assemble, draw_parts};
+use crate::streams::{assemble, draw_parts, Stream};
+use std::hint::black_box;
 
 const ROUNDS: usize = 9;
 
-/// The greatest selectors, and the means that give about 1, 3 and 5 bits for each coefficient.
-const SELECTORS: [u32; 3] = [0, 2, 4];
+/// Least and greatest selectors, and the means that give about 1, 3 and 5 bits for each
+/// coefficient.
+const SELECTORS: [[u32; 2]; 3] = [[0, 0], [0, 2], [1, 4]];
 const MEANS: [f64; 3] = [0.46, 1.42, 4.5];
 
-/// What is measured: a whole tile, or its coefficients alone, taken as the tile's time less that
-/// of a tile of the same size whose records are empty.
+/// What is measured: whole tiles, or their coefficients alone.
 #[derive(Debug, Clone, Copy, PartialEq, Eq)]
 pub enum Part {
     Tile,
@@ -52,97 +54,185 @@ fn thread_time() -> f64 {
     time.seconds as f64 * 1e3 + time.nanoseconds as f64 / 1e6
 }
 
-fn timed(work: impl FnOnce()) -> f64 {
+fn timed<T>(work: impl FnOnce() -> T) -> (f64, T) {
     let start = thread_time();
-    work();
-    thread_time() - start
+    let answer = work();
+    (thread_time() - start, answer)
 }
 
-/// The best time of the original and of ours, in milliseconds.
-#[derive(Clone, Copy)]
-struct Times {
-    original: f64,
-    ours: f64,
+/// The best of the rounds' times.
+fn best(mut round: impl FnMut() -> f64) -> f64 {
+    (0..ROUNDS).map(|_| round()).fold(f64::MAX, f64::min)
 }
 
-impl Times {
-    fn less(self, other: Times) -> Times {
-        Times { original: self.original - other.original, ours: self.ours - other.ours }
-    }
-
-    fn print(self) {
-        print!("{:>12.3}{:>9.3}{:>8.2}", self.original, self.ours, self.original / self.ours);
-    }
+fn print_times(original: f64, ours: f64) {
+    print!("{original:>12.3}{ours:>9.3}{:>8.2}", original / ours);
 }
 
-fn measure(decoder: &impl Decoder, stream: &[u8], slices: &mut Slices) -> Times {
-    let mut best = Times { original: f64::MAX, ours: f64::MAX };
+/// Whole tiles, by turns.
+fn measure_tile(decoder: &impl Decoder, stream: &Stream) {
+    let mut slices: Slices = stream.size.needed().map(|length| vec![1; length]);
+    let (mut original, mut ours) = (f64::MAX, f64::MAX);
     for _ in 0..ROUNDS {
-        let original = timed(|| assert!(std::hint::black_box(decode_stream(stream, false)).is_ok()));
-        let ours = timed(|| assert_eq!(decoder.decode_stream(stream, slices).refusal, 0));
-        best.original = best.original.min(original);
-        best.ours = best.ours.min(ours);
+        let (time, answer) = timed(|| black_box(decode_stream(&stream.bytes, false)));
+        assert!(answer.is_ok());
+        original = original.min(time);
+        let (time, answer) = timed(|| decoder.decode_stream(&stream.bytes, &mut slices));
+        assert_eq!(answer.refusal, 0);
+        ours = ours.min(time);
     }
-    best
+    print_times(original, ours);
+}
+
+/// The packets of some groups of a stream.
+struct Packets<'a> {
+    stream: &'a Stream,
+    directory: Vec<DirEntry>,
+    groups: &'a [usize],
+}
+
+impl Packets<'_> {
+    /// Group and index of each packet.
+    fn all(&self) -> impl Iterator<Item = (usize, usize)> + '_ {
+        self.groups.iter().flat_map(|&g| (0..self.stream.packets[g].len()).map(move |k| (g, k)))
+    }
+
+    fn original(&self, group: usize, index: usize) -> Vec<Plane> {
+        let size = self.stream.size;
+        let planes = packet_planes(
+            &self.stream.bytes,
+            &self.directory,
+            size.width,
+            size.height(),
+            group,
+            index,
+            false,
+        );
+        black_box(planes).expect("the stream is accepted")
+    }
+
+    /// The numbers of the largest packet.
+    fn longest(&self) -> usize {
+        let size = self.stream.size;
+        self.groups.iter().map(|&g| (size.n() + 1) * size.shape(g).numbers()).max().unwrap_or(0)
+    }
+
+    /// One packet's coefficients by ours.
+    fn ours(&self, decoder: &impl Decoder, group: usize, index: usize, band: &mut [i32]) {
+        let (size, (start, length)) = (self.stream.size, self.stream.packets[group][index]);
+        let (shape, records) = (size.shape(group), size.n() + 1);
+        let packet = &self.stream.bytes[start..start + length];
+        let stopped = decoder.packet(packet, shape, records, &mut band[..records * shape.numbers()]);
+        assert_eq!(stopped, Some(0));
+    }
+
+    /// Whether both give the same coefficients of every packet.
+    fn agree(&self, decoder: &impl Decoder, band: &mut [i32]) -> bool {
+        self.all().all(|(group, index)| {
+            let (start, length) = self.stream.packets[group][index];
+            let (shape, records) = (self.stream.size.shape(group), self.stream.size.n() + 1);
+            let packet = &self.stream.bytes[start..start + length];
+            self.ours(decoder, group, index, band);
+            packet_coefficients(packet, shape, records).is_ok_and(|(c, _)| c == band[..c.len()])
+        })
+    }
+}
+
+/// Coefficients by the original's `packet_planes`, whose planes are dropped after each packet, so
+/// that its allocator has their memory at hand, and by ours; then the original's again, its planes
+/// kept to the end of the tile, as memory that is fresh.
+fn measure_packets(decoder: &impl Decoder, stream: &Stream, groups: &[usize]) {
+    let directory = parse_directory(&stream.bytes).expect("the stream is accepted");
+    let packets = Packets { stream, directory, groups };
+    let mut band = vec![1; packets.longest()];
+    assert!(packets.agree(decoder, &mut band));
+    let dropped = best(|| packets.all().map(|(g, k)| timed(|| drop(packets.original(g, k))).0).sum());
+    let ours = best(|| packets.all().map(|(g, k)| timed(|| packets.ours(decoder, g, k, &mut band)).0).sum());
+    let kept = best(|| timed(|| packets.all().map(|(g, k)| packets.original(g, k)).collect::<Vec<_>>()).0);
+    print_times(dropped, ours);
+    print!("{kept:>12.3}{:>8.2}", kept / ours);
 }
 
 /// One line of the table.
 struct Line {
     size: Size,
-    selector: u32,
+    selectors: [u32; 2],
     mean: f64,
 }
 
+impl Line {
+    fn new(width: usize, height: usize, selectors: [u32; 2], mean: f64) -> Line {
+        Line { size: Size { width, half: height / 2 }, selectors, mean }
+    }
+
+    /// The line's stream, with its first columns printed.
+    fn stream(&self, rng: &mut Rng) -> Stream {
+        let stream = assemble(&draw_parts(rng, self.size, &Recipe::ordinary(self.mean, self.selectors)));
+        let bits = stream.bytes.len() as f64 * 8.0 / self.size.needed()[3] as f64;
+        let [least, greatest] = self.selectors;
+        let size = format!("{} x {}", self.size.width, self.size.height());
+        print!("{size:<14}{:>9}{bits:>8.2}", format!("{least} to {greatest}"));
+        stream
+    }
+}
+
+/// Large tiles, plain and guarded; then other widths, and small tiles.
 fn lines() -> Vec<Line> {
-    let line = |width: usize, height: usize, selector: u32, mean: f64| {
-        let size = Size { width, half: height / 2 };
-        Line { size, selector, mean }
-    };
     let mut lines = Vec::new();
     for height in [3072, 3064] {
-        for selector in SELECTORS {
-            lines.extend(MEANS.map(|mean| line(4608, height, selector, mean)));
+        for selectors in SELECTORS {
+            lines.extend(MEANS.map(|mean| Line::new(4608, height, selectors, mean)));
         }
     }
-    lines.extend([16, 256, 1024, 4096, 8192].map(|width| line(width, 3072, 2, MEANS[1])));
-    lines.extend([(16, 16), (16, 26), (64, 48)].map(|(width, height)| line(width, height, 2, MEANS[1])));
+    lines.extend([16, 64, 256, 1024, 8192].map(|width| Line::new(width, 3072, [0, 2], MEANS[1])));
+    lines.extend([(16, 16), (16, 26), (64, 48)].map(|(w, h)| Line::new(w, h, [0, 2], MEANS[1])));
     lines
 }
 
-/// Runs the table, or one part of its columns.
+/// Runs the table, or one part of its columns; then the packets whose rows have 16 columns.
 pub fn run(decoder: &impl Decoder, only: Option<Part>) {
-    print_head(only);
+    println!("thread CPU time in ms, best of {ROUNDS}; ratio is the original's time over ours");
     let mut rng = Rng::new(1);
-    let mut empty: Option<(Size, Times)> = None;
+    print_head(only);
     for line in lines() {
-        let recipe = Recipe::ordinary(line.mean, line.selector);
-        let stream = assemble(&draw_parts(&mut rng, line.size, &recipe)).bytes;
-        let mut slices: Slices = line.size.needed().map(|length| vec![1; length]);
-        let bits = stream.len() as f64 * 8.0 / line.size.needed()[3] as f64;
-        let size = format!("{} x {}", line.size.width, line.size.height());
-        print!("{size:<14}{:>9}{bits:>8.2}", format!("0 to {}", line.selector));
-        let tile = measure(decoder, &stream, &mut slices);
+        let stream = line.stream(&mut rng);
         if only != Some(Part::Coefficients) {
-            tile.print();
+            measure_tile(decoder, &stream);
         }
         if only != Some(Part::Tile) {
-            if empty.is_none_or(|(size, _)| size != line.size) {
-                let stream = empty_stream(line.size, line.size.n() + 1).bytes;
-                empty = Some((line.size, measure(decoder, &stream, &mut slices)));
-            }
-            empty.iter().for_each(|&(_, times)| tile.less(times).print());
+            measure_packets(decoder, &stream, &[0, 1, 2, 3, 4]);
         }
         println!();
+    }
+    if only != Some(Part::Tile) {
+        println!("\nrows of 16 columns");
+        print_head(Some(Part::Coefficients));
+        run_short_rows(decoder, &mut rng);
+    }
+}
+
+/// Group 3 at width 64 and groups 0 and 1 at width 256.
+fn run_short_rows(decoder: &impl Decoder, rng: &mut Rng) {
+    for (width, groups) in [(64, &[3][..]), (256, &[0, 1][..])] {
+        for selectors in [SELECTORS[0], SELECTORS[2]] {
+            for mean in MEANS {
+                let stream = Line::new(width, 3072, selectors, mean).stream(rng);
+                measure_packets(decoder, &stream, groups);
+                println!();
+            }
+        }
     }
 }
 
 fn print_head(only: Option<Part>) {
-    println!("thread CPU time in ms, best of {ROUNDS}; ratio is the original's time over ours");
     print!("{:<14}{:>9}{:>8}", "size", "selectors", "bits");
     for (part, name) in [(Part::Tile, "tile: Rust"), (Part::Coefficients, "coef.: Rust")] {
         if only.is_none_or(|o| o == part) {
             print!("{name:>12}{:>9}{:>8}", "ours", "ratio");
         }
+    }
+    if only != Some(Part::Tile) {
+        print!("{:>12}{:>8}", "kept: Rust", "ratio");
     }
     println!();
 }

@@ -11,6 +11,8 @@ pub use ffi::Library as Ours;
 #[cfg(feature = "mock")]
 pub use mock::Mock as Ours;
 
+use crate::size::Shape;
+
 /// The answer for a stream, as the C interface gives it. The height is the coded height H.
 #[repr(C)]
 #[derive(Debug, Clone, Copy, Default, PartialEq, Eq)]
@@ -30,4 +32,8 @@ pub trait Decoder {
     fn tile_count(&self, strip: &[u8], frame: (usize, usize)) -> usize;
     fn tile_field(&self, strip: &[u8], frame: (usize, usize), ordinal: usize, field: usize) -> usize;
     fn decode_stream(&self, stream: &[u8], slices: &mut Slices) -> Decoded;
+
+    /// The coefficients of a packet of so many records, and how many of them stopped; None where
+    /// the packet, the shape and the band do not go together.
+    fn packet(&self, packet: &[u8], shape: Shape, records: usize, band: &mut [i32]) -> Option<usize>;
 }

@@ -12,8 +12,8 @@ use crate::size::Shape;
 pub struct Recipe {
     /// The mean magnitude of the values.
     pub mean: f64,
-    /// The greatest selector.
-    pub selector: u32,
+    /// The least and the greatest selector.
+    pub selectors: [u32; 2],
     /// One record in so many is out of the ordinary; 0 means none.
     pub odd: usize,
     /// One packet in so many of a guarded stream has one record fewer.
@@ -28,7 +28,7 @@ impl Recipe {
     pub fn draw(rng: &mut Rng) -> Self {
         Recipe {
             mean: rng.pick(&[0.0, 0.1, 0.3, 1.0, 4.0, 30.0, 1000.0, 100_000.0]),
-            selector: rng.pick(&[0, 0, 2, 4, 8, 15]),
+            selectors: [0, rng.pick(&[0, 0, 2, 4, 8, 15])],
             odd: rng.pick(&[0, 2, 4, 12]),
             fewer: rng.pick(&[1, 2, 6]),
             loose: rng.one_in(2),
@@ -37,8 +37,8 @@ impl Recipe {
     }
 
     /// Ordinary records alone, in the plain layout.
-    pub fn ordinary(mean: f64, selector: u32) -> Self {
-        Recipe { mean, selector, odd: 0, fewer: usize::MAX, loose: false, plain_layout: true }
+    pub fn ordinary(mean: f64, selectors: [u32; 2]) -> Self {
+        Recipe { mean, selectors, odd: 0, fewer: usize::MAX, loose: false, plain_layout: true }
     }
 }
 
@@ -105,7 +105,8 @@ impl Style {
 
 /// Draws one record of the style; a payload that no byte length can tell is cut.
 pub fn draw_styled(rng: &mut Rng, shape: Shape, recipe: &Recipe, style: Style) -> Record {
-    let selectors = std::array::from_fn(|_| rng.below(recipe.selector as usize + 1) as u32);
+    let [least, greatest] = recipe.selectors;
+    let selectors = std::array::from_fn(|_| least + rng.below((greatest - least) as usize + 1) as u32);
     let mut payload = match style {
         Style::Coded => coded(rng, shape, &selectors, recipe, false),
         Style::Empty => Vec::new(),

@@ -25,7 +25,7 @@ pub fn cases() -> impl Iterator<Item = Case> {
 
 fn small_parts(width: usize, height: usize) -> Parts {
     let size = Size { width, half: height / 2 };
-    draw_parts(&mut Rng::new(1), size, &Recipe::ordinary(2.0, 3))
+    draw_parts(&mut Rng::new(1), size, &Recipe::ordinary(2.0, [0, 3]))
 }
 
 fn stream_case(stream: Vec<u8>) -> Case {

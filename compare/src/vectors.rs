@@ -108,7 +108,8 @@ fn records(rng: &mut Rng) -> Vectors {
 fn put_records(out: &mut Vectors, rng: &mut Rng, group: usize, style: Style, fewer: bool) {
     let width = rng.pick(&[[16, 48, 512], [16, 80, 256], [16, 48, 64], [16, 32, 48], [16, 32, 48]][group]);
     let shape = size(width, 16).shape(group);
-    let recipe = Recipe { selector: rng.pick(&[0, 4, 15]), loose: true, ..Recipe::ordinary(0.0, 0) };
+    let recipe =
+        Recipe { selectors: [0, rng.pick(&[0, 4, 15])], loose: true, ..Recipe::ordinary(0.0, [0, 0]) };
     let expected = rng.within(2, 4);
     let count = expected - fewer as usize;
     let drawn = |rng: &mut Rng| {
@@ -149,7 +150,7 @@ fn tiles(rng: &mut Rng) -> Vectors {
     let mut out = Vectors::default();
     for (width, height) in sizes {
         for (mean, selector, odd) in [(0.5, 0, 0), (30.0, 4, 3), (3000.0, 15, 4)] {
-            let recipe = Recipe { odd, fewer: 3, loose: true, ..Recipe::ordinary(mean, selector) };
+            let recipe = Recipe { odd, fewer: 3, loose: true, ..Recipe::ordinary(mean, [0, selector]) };
             let stream = assemble(&draw_parts(rng, size(width, height), &recipe));
             put_tile(&mut out, &stream.bytes);
         }
@@ -160,7 +161,7 @@ fn tiles(rng: &mut Rng) -> Vectors {
 
 /// A stream whose fifth directory block is the first packet's header, with bytes after its end.
 fn directory_in_packet(rng: &mut Rng) -> Stream {
-    let recipe = Recipe::ordinary(0.2, 2);
+    let recipe = Recipe::ordinary(0.2, [0, 2]);
     let mut parts = draw_parts(rng, size(16, 16), &recipe);
     push_directory_into_packet(rng, &mut parts, &recipe);
     parts.trailing = rng.bytes(5);

@@ -1,6 +1,7 @@
-//! Calls into the static library `libarw6.a`.
+//! Calls into the static libraries `libarw6.a` and `libcoefficients.a`.
 
 use super::{Decoded, Decoder, Slices};
+use crate::size::Shape;
 
 extern "C" {
     fn arw6_tile_count(strip: *const u8, strip_len: usize, frame_width: usize, frame_height: usize) -> usize;
@@ -24,6 +25,15 @@ extern "C" {
         work: *mut i32,
         work_len: usize,
     ) -> Decoded;
+    fn arw6_packet(
+        packet: *const u8,
+        packet_len: usize,
+        m: usize,
+        columns: usize,
+        records: usize,
+        band: *mut i32,
+        band_len: usize,
+    ) -> u64;
 }
 
 /// The proved library.
@@ -56,5 +66,20 @@ impl Decoder for Library {
                 work.len(),
             )
         }
+    }
+    fn packet(&self, packet: &[u8], shape: Shape, records: usize, band: &mut [i32]) -> Option<usize> {
+        // SAFETY: each pointer and length are those of one slice, which share no byte.
+        let answer = unsafe {
+            arw6_packet(
+                packet.as_ptr(),
+                packet.len(),
+                shape.m,
+                shape.columns,
+                records,
+                band.as_mut_ptr(),
+                band.len(),
+            )
+        };
+        answer.checked_sub(1).map(|stopped| stopped as usize)
     }
 }

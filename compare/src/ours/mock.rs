@@ -2,6 +2,7 @@
 
 use super::{Decoded, Decoder, Slices};
 use crate::oracle;
+use crate::size::Shape;
 
 pub struct Mock;
 
@@ -21,6 +22,15 @@ impl Decoder for Mock {
             Err(refusal) => Decoded { refusal, ..Decoded::default() },
             Ok(planes) => write(planes, slices),
         }
+    }
+
+    fn packet(&self, packet: &[u8], shape: Shape, records: usize, band: &mut [i32]) -> Option<usize> {
+        let (coefficients, stopped) = oracle::packet_coefficients(packet, shape, records).ok()?;
+        if coefficients.len() != band.len() {
+            return None;
+        }
+        band.copy_from_slice(&coefficients);
+        Some(stopped)
     }
 }
 
