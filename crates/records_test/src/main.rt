@@ -1,32 +1,13 @@
-// Runs `records::decode_packet` over packets from standard input, and compares its coefficients and its count with those that stand
+// Runs `coefficients::arw6_packet` over packets from standard input, and compares its coefficients and its count with those that stand
 // beside each packet. A case is six little-endian words (the packet's length, kind, m, columns, records, stopped records), the packet's
 // bytes, and a word for each coefficient.
 ghost use Prim.Native.Nat.{_*_, _<_, _≤_, _^_};
 ghost use lib.ListN.{length};
+use coefficients::arw6_packet;
 use vectors::read;
 use vectors::same;
 use vectors::small;
 use vectors::word;
-use words::field;
-
-// Decodes a packet, and answers how many records stopped; 999 where the packet and the sizes do not go together.
-fn stopped_of(packet: &[u8], m: usize, cols: usize, n: usize, band: &mut [i32]) -> usize
-    requires { ⌜ (m < 256) × (cols < 256) × (n < 256) ⌝ }
-{
-    if packet.len() < 16 {
-        return 999;
-    }
-    if 8 < m {
-        return 999;
-    }
-    if n < field(packet, 56, 16) {
-        return 999;
-    }
-    if band.len() != n * (field(packet, 48, 2) * m * cols) {
-        return 999;
-    }
-    records::decode_packet(packet, m, cols, n, band) as usize
-}
 
 // The coefficients of the case.
 fn total(head: &[u8]) -> usize
@@ -40,14 +21,14 @@ fn total(head: &[u8]) -> usize
 fn right_case(head: &[u8], packet: &[u8], want: &[u8], band: &mut [i32]) -> bool
     requires { ⌜ (24 ≤ length (now head)) × (4 * length (now band) ≤ length (now want)) ⌝ }
 {
-    let stopped = stopped_of(
+    let counted = arw6_packet(
         packet,
         small(head, 8),
         small(head, 12),
         small(head, 16),
         band,
     );
-    if stopped != word(head, 20) {
+    if counted as usize != word(head, 20) + 1 {
         return false;
     }
     same(band, want)

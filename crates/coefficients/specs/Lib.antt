@@ -1,0 +1,2 @@
+-- What the contracts of `coefficients` cite, besides document 01.
+pub mod Together

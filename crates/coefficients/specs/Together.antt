@@ -1,0 +1,12 @@
+-- A packet, sizes and a band that `decode_packet` takes.
+use mathlib.Core.List.{List}
+use mathlib.Core.Bool.{Bool, _&&_}
+use Prim.Native.Nat.{ℕ, _*_, _^_}
+use lib.ListN.{length}
+use lib.Dec.{leb, ltb, eqb}
+use Rattle.format.specs.Packets.{kind, blocks}
+
+-- whether a packet has its header and at most n records, n records of m rows for each component fill a band of a size, and the sizes are small
+unfoldable pub together : List ℕ → ℕ → ℕ → ℕ → ℕ → Bool
+together p m cols n size =
+    leb 16 (length p) && leb m 8 && ltb cols (2 ^ 16) && ltb n (2 ^ 16) && leb (blocks p) n && eqb size (n * (kind p * m * cols))

@@ -1,0 +1,53 @@
+// The coefficients of one packet for C.
+ghost use mathlib.Core.Path.{_≡_};
+ghost use mathlib.Core.Bool.{cond};
+ghost use Prim.Native.Nat.{_+_};
+ghost use lib.ListN.{length};
+ghost use Rattle.format.specs.Coefficients.{packetValues, packetStopped};
+ghost use Rattle.coefficients.specs.Together.{together};
+use records::decode_packet;
+use words::field;
+
+// Columns and records are below this.
+const LIMIT: usize = 65536;
+
+// Whether packet, sizes and the size of a band go together.
+fn fits(packet: &[u8], m: usize, cols: usize, n: usize, size: usize) -> bool
+    ensures { λ r. ⌜ r ≡ together (now (packet .entry)) m cols n size ⌝ }
+{
+    if packet.len() < 16 {
+        return false;
+    }
+    if 8 < m {
+        return false;
+    }
+    if LIMIT <= cols {
+        return false;
+    }
+    if LIMIT <= n {
+        return false;
+    }
+    if n < field(packet, 56, 16) {
+        return false;
+    }
+    size == n * (field(packet, 48, 2) * m * cols)
+}
+
+// The coefficients of a packet of n records, those that are missing with them, into a band of their size: how many records stopped,
+// and 1; 0, with the band as it was, where packet, sizes and band do not go together.
+#[no_mangle]
+pub extern "C" fn arw6_packet(
+    packet: &[u8],
+    m: usize,
+    cols: usize,
+    n: usize,
+    band: &mut [i32],
+) -> u64
+    ensures { λ r. ⌜ r ≡ cond (together (now (packet .entry)) m cols n (length (now (band .entry)))) (packetStopped (now (packet .entry)) m cols + 1) 0 ⌝ }
+    ensures { λ r. ⌜ now (band .exit) ≡ cond (together (now (packet .entry)) m cols n (length (now (band .entry)))) (packetValues (now (packet .entry)) m cols n) (now (band .entry)) ⌝ }
+{
+    if !fits(packet, m, cols, n, band.len()) {
+        return 0;
+    }
+    decode_packet(packet, m, cols, n, band) + 1
+}
