@@ -54,33 +54,34 @@ fn thread_time() -> f64 {
     time.seconds as f64 * 1e3 + time.nanoseconds as f64 / 1e6
 }
 
-fn timed<T>(work: impl FnOnce() -> T) -> (f64, T) {
+fn timed(work: impl FnOnce()) -> f64 {
     let start = thread_time();
-    let answer = work();
-    (thread_time() - start, answer)
-}
-
-/// The best of the rounds' times.
-fn best(mut round: impl FnMut() -> f64) -> f64 {
-    (0..ROUNDS).map(|_| round()).fold(f64::MAX, f64::min)
+    work();
+    thread_time() - start
 }
 
 fn print_times(original: f64, ours: f64) {
     print!("{original:>12.3}{ours:>9.3}{:>8.2}", original / ours);
 }
 
-/// Whole tiles, by turns.
+/// The best times of some pieces of work that take turns.
+fn by_turns<const N: usize>(mut work: [&mut dyn FnMut(); N]) -> [f64; N] {
+    let mut best = [f64::MAX; N];
+    for _ in 0..ROUNDS {
+        for (best, work) in best.iter_mut().zip(&mut work) {
+            *best = best.min(timed(work));
+        }
+    }
+    best
+}
+
+/// Whole tiles.
 fn measure_tile(decoder: &impl Decoder, stream: &Stream) {
     let mut slices: Slices = stream.size.needed().map(|length| vec![1; length]);
-    let (mut original, mut ours) = (f64::MAX, f64::MAX);
-    for _ in 0..ROUNDS {
-        let (time, answer) = timed(|| black_box(decode_stream(&stream.bytes, false)));
-        assert!(answer.is_ok());
-        original = original.min(time);
-        let (time, answer) = timed(|| decoder.decode_stream(&stream.bytes, &mut slices));
-        assert_eq!(answer.refusal, 0);
-        ours = ours.min(time);
-    }
+    let [original, ours] =
+        by_turns([&mut || assert!(black_box(decode_stream(&stream.bytes, false)).is_ok()), &mut || {
+            assert_eq!(decoder.decode_stream(&stream.bytes, &mut slices).refusal, 0)
+        }]);
     print_times(original, ours);
 }
 
@@ -139,16 +140,19 @@ impl Packets<'_> {
 }
 
 /// Coefficients by the original's `packet_planes`, whose planes are dropped after each packet, so
-/// that its allocator has their memory at hand, and by ours; then the original's again, its planes
-/// kept to the end of the tile, as memory that is fresh.
+/// that its allocator has their memory at hand, and by ours; then by the original with all planes of
+/// the tile kept, as its `decode_stream` does with those of a colour.
 fn measure_packets(decoder: &impl Decoder, stream: &Stream, groups: &[usize]) {
     let directory = parse_directory(&stream.bytes).expect("the stream is accepted");
     let packets = Packets { stream, directory, groups };
     let mut band = vec![1; packets.longest()];
     assert!(packets.agree(decoder, &mut band));
-    let dropped = best(|| packets.all().map(|(g, k)| timed(|| drop(packets.original(g, k))).0).sum());
-    let ours = best(|| packets.all().map(|(g, k)| timed(|| packets.ours(decoder, g, k, &mut band)).0).sum());
-    let kept = best(|| timed(|| packets.all().map(|(g, k)| packets.original(g, k)).collect::<Vec<_>>()).0);
+    let [dropped, ours] =
+        by_turns([&mut || packets.all().for_each(|(g, k)| drop(packets.original(g, k))), &mut || {
+            packets.all().for_each(|(g, k)| packets.ours(decoder, g, k, &mut band))
+        }]);
+    let keep = || drop(packets.all().map(|(g, k)| packets.original(g, k)).collect::<Vec<_>>());
+    let [kept] = by_turns([&mut { keep }]);
     print_times(dropped, ours);
     print!("{kept:>12.3}{:>8.2}", kept / ours);
 }
