@@ -147,12 +147,11 @@ fn measure_packets(decoder: &impl Decoder, stream: &Stream, groups: &[usize]) {
     let packets = Packets { stream, directory, groups };
     let mut band = vec![1; packets.longest()];
     assert!(packets.agree(decoder, &mut band));
-    let [dropped, ours] =
-        by_turns([&mut || packets.all().for_each(|(g, k)| drop(packets.original(g, k))), &mut || {
-            packets.all().for_each(|(g, k)| packets.ours(decoder, g, k, &mut band))
-        }]);
-    let keep = || drop(packets.all().map(|(g, k)| packets.original(g, k)).collect::<Vec<_>>());
-    let [kept] = by_turns([&mut { keep }]);
+    let mut drop_each = || packets.all().for_each(|(g, k)| drop(packets.original(g, k)));
+    let mut our_each = || packets.all().for_each(|(g, k)| packets.ours(decoder, g, k, &mut band));
+    let mut keep_all = || drop(packets.all().map(|(g, k)| packets.original(g, k)).collect::<Vec<_>>());
+    let [dropped, ours] = by_turns([&mut drop_each, &mut our_each]);
+    let [kept] = by_turns([&mut keep_all]);
     print_times(dropped, ours);
     print!("{kept:>12.3}{:>8.2}", kept / ours);
 }
