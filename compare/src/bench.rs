@@ -3,7 +3,7 @@
 
 use crate::oracle::packet_coefficients;
 use crate::original::{decode_stream, packet_planes, parse_directory, DirEntry, Plane};
-use crate::ours::{Decoder, Slices};
+use crate::ours::{Decoder, PacketDecoder, Slices};
 use crate::records::Recipe;
 use crate::rng::Rng;
 use crate::size::Size;
@@ -119,7 +119,7 @@ impl Packets<'_> {
     }
 
     /// One packet's coefficients by ours.
-    fn ours(&self, decoder: &impl Decoder, group: usize, index: usize, band: &mut [i32]) {
+    fn ours(&self, decoder: &impl PacketDecoder, group: usize, index: usize, band: &mut [i32]) {
         let (size, (start, length)) = (self.stream.size, self.stream.packets[group][index]);
         let (shape, records) = (size.shape(group), size.n() + 1);
         let packet = &self.stream.bytes[start..start + length];
@@ -128,7 +128,7 @@ impl Packets<'_> {
     }
 
     /// Whether both give the same coefficients of every packet.
-    fn agree(&self, decoder: &impl Decoder, band: &mut [i32]) -> bool {
+    fn agree(&self, decoder: &impl PacketDecoder, band: &mut [i32]) -> bool {
         self.all().all(|(group, index)| {
             let (start, length) = self.stream.packets[group][index];
             let (shape, records) = (self.stream.size.shape(group), self.stream.size.n() + 1);
@@ -142,7 +142,7 @@ impl Packets<'_> {
 /// Coefficients by the original's `packet_planes`, whose planes are dropped after each packet, so
 /// that its allocator has their memory at hand, and by ours; then by the original with all planes of
 /// the tile kept, as its `decode_stream` does with those of a colour.
-fn measure_packets(decoder: &impl Decoder, stream: &Stream, groups: &[usize]) {
+fn measure_packets(decoder: &impl PacketDecoder, stream: &Stream, groups: &[usize]) {
     let directory = parse_directory(&stream.bytes).expect("the stream is accepted");
     let packets = Packets { stream, directory, groups };
     let mut band = vec![1; packets.longest()];
@@ -193,7 +193,7 @@ fn lines() -> Vec<Line> {
 }
 
 /// Runs the table, or one part of its columns; then the packets whose rows have 16 columns.
-pub fn run(decoder: &impl Decoder, only: Option<Part>) {
+pub fn run(decoder: &impl PacketDecoder, only: Option<Part>) {
     println!("thread CPU time in ms, best of {ROUNDS}; ratio is the original's time over ours");
     let mut rng = Rng::new(1);
     print_head(only);
@@ -215,7 +215,7 @@ pub fn run(decoder: &impl Decoder, only: Option<Part>) {
 }
 
 /// Group 3 at width 64 and groups 0 and 1 at width 256.
-fn run_short_rows(decoder: &impl Decoder, rng: &mut Rng) {
+fn run_short_rows(decoder: &impl PacketDecoder, rng: &mut Rng) {
     for (width, groups) in [(64, &[3][..]), (256, &[0, 1][..])] {
         for selectors in [SELECTORS[0], SELECTORS[2]] {
             for mean in MEANS {

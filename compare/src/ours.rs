@@ -32,7 +32,10 @@ pub trait Decoder {
     fn tile_count(&self, strip: &[u8], frame: (usize, usize)) -> usize;
     fn tile_field(&self, strip: &[u8], frame: (usize, usize), ordinal: usize, field: usize) -> usize;
     fn decode_stream(&self, stream: &[u8], slices: &mut Slices) -> Decoded;
+}
 
+/// What the benchmark asks of it besides.
+pub trait PacketDecoder: Decoder {
     /// The coefficients of a packet of so many records, and how many of them stopped; None where
     /// the packet, the shape and the band do not go together.
     fn packet(&self, packet: &[u8], shape: Shape, records: usize, band: &mut [i32]) -> Option<usize>;

@@ -1,6 +1,6 @@
 //! Calls into the static libraries `libarw6.a` and `libcoefficients.a`.
 
-use super::{Decoded, Decoder, Slices};
+use super::{Decoded, Decoder, PacketDecoder, Slices};
 use crate::size::Shape;
 
 extern "C" {
@@ -67,6 +67,9 @@ impl Decoder for Library {
             )
         }
     }
+}
+
+impl PacketDecoder for Library {
     fn packet(&self, packet: &[u8], shape: Shape, records: usize, band: &mut [i32]) -> Option<usize> {
         // SAFETY: each pointer and length are those of one slice, which share no byte.
         let answer = unsafe {

@@ -1,6 +1,6 @@
 //! The original behind the library's interface, so that the driver can be tested alone.
 
-use super::{Decoded, Decoder, Slices};
+use super::{Decoded, Decoder, PacketDecoder, Slices};
 use crate::oracle;
 use crate::size::Shape;
 
@@ -23,7 +23,9 @@ impl Decoder for Mock {
             Ok(planes) => write(planes, slices),
         }
     }
+}
 
+impl PacketDecoder for Mock {
     fn packet(&self, packet: &[u8], shape: Shape, records: usize, band: &mut [i32]) -> Option<usize> {
         let (coefficients, stopped) = oracle::packet_coefficients(packet, shape, records).ok()?;
         if coefficients.len() != band.len() {
