@@ -407,7 +407,7 @@ pub struct Next {
 
 // The place before which two words stand whole in the packet.
 fn edge(packet: &[u8]) -> u64
-    ensures { λ r. ⌜ r ≤ length (now (packet .entry)) * 8 - 127 ⌝ }
+    ensures { λ r. ⌜ r ≡ min (length (now (packet .entry))) (2 ^ 40) * 8 - 127 ⌝ }
 {
     less(least(packet.len() as u64, 0x100_0000_0000) * 8, 127)
 }
@@ -415,7 +415,7 @@ fn edge(packet: &[u8]) -> u64
 // Whether a word is there to take a run or a short group of four columns from.
 fn near(width: u64, out: usize, n: usize, place: u64, end: u64) -> bool
     requires { ⌜ out < 2 ^ 33 ⌝ }
-    ensures { λ r. ⌜ (r ≡ true → Near width out n place end) ⌝ }
+    ensures { λ r. ⌜ (r ≡ true → Near width out n place end) × (r ≡ false → Near width out n place end → ⊥) ⌝ }
 {
     if 12 < width {
         return false;
@@ -429,7 +429,7 @@ fn near(width: u64, out: usize, n: usize, place: u64, end: u64) -> bool
 // Whether so many bits are more than a word gives at one go, or more than are left up to a place.
 fn over(place: u64, used: u64, stop: u64) -> bool
     requires { ⌜ (place < 2 ^ 40) × (used < 2 ^ 40) ⌝ }
-    ensures { λ r. ⌜ (r ≡ false → (used ≤ 56) × (place + used ≤ stop)) ⌝ }
+    ensures { λ r. ⌜ (r ≡ false → (used ≤ 56) × (place + used ≤ stop)) × (r ≡ true → (used ≤ 56) × (place + used ≤ stop) → ⊥) ⌝ }
 {
     if 56 < used {
         return true;

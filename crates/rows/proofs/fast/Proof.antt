@@ -28,13 +28,13 @@ near-requires : tie.Need-near-requires Inv-loop μ-loop
 near-requires c κs = omega (arith, c .loop .inv .inside, c .before .before .before .before .before .pre .1 .0)
 
 sub-run-word : tie.Need-sub-run-word Inv-loop μ-loop
-sub-run-word c = omega (arith, (c .before .before .near .ensures (c .before .if1 .taken)))
+sub-run-word c = omega (arith, (c .before .before .near .ensures .0 (c .before .if1 .taken)))
 
 add-run-word : tie.Need-add-run-word Inv-loop μ-loop
 add-run-word c = omega (arith, c .before .before .before .before .before .before .before .before .pre .1 .0)
 
 run-word-requires : tie.Need-run-word-requires Inv-loop μ-loop
-run-word-requires c κs = omega (arith, (c .before .before .near .ensures (c .before .if1 .taken)), c .before .before .before .before .before .before .before .before .pre .1 .0)
+run-word-requires c κs = omega (arith, (c .before .before .near .ensures .0 (c .before .if1 .taken)), c .before .before .before .before .before .before .before .before .pre .1 .0)
 
 over-requires : tie.Need-over-requires Inv-loop μ-loop
 over-requires c κs = omega (arith, c .before .before .before .before .loop .inv .to, c .before .before .before .before .before .before .before .before .before .pre .0 .room, c .run-word .ensures .few)
@@ -60,7 +60,7 @@ add-i : tie.Need-add-i Inv-loop μ-loop
 add-i c = omega (arith, c .before .before .run-word .ensures .most, c .before .before .before .before .before .before .loop .inv .inside, c .before .before .before .before .before .before .before .before .before .before .before .pre .1 .0)
 
 after-requires : tie.Need-after-requires Inv-loop μ-loop
-after-requires c κs = omega (arith, (c .before .before .before .before .before .near .ensures (c .before .before .before .before .if1 .taken)), c .before .before .before .before .before .before .before .before .before .edge .ensures, (c .before .over .ensures (c .if3 .left)))
+after-requires c κs = omega (arith, (c .before .before .before .before .before .near .ensures .0 (c .before .before .before .before .if1 .taken)), c .before .before .before .before .before .before .before .before .before .edge .ensures, (c .before .over .ensures .0 (c .if3 .left)))
 
 add-place : tie.Need-add-place Inv-loop μ-loop
 add-place c = omega (arith, c .before .before .before .before .before .before .before .before .loop .inv .to, c .before .before .before .before .before .before .before .before .before .before .before .before .before .pre .0 .room, c .before .before .before .before .run-word .ensures .few)
@@ -71,11 +71,11 @@ ran : (c : tie.After-struct-known2 Inv-loop μ-loop) → (0 < c .before .before 
 ran c =
     let a = c .before .before .before .before .before .before .before .before .before .before .before .before .before .args in
     let l = c .before .before .before .before .before .before .before .before .loop in
-    turn-run (a .packet .now) (a .dst .now) (a .out) (a .width) (a .reader) (c .before .before .before .before .before .before .before .before .before .before .before .before .before .pre .0) (c .before .before .before .before .before .before .before .before .before .before .before .before .before .pre .1 .0 .0) (l .dst) (l .place) (l .w) (l .i) (l .word) (l .inv) ((c .before .before .before .before .before .before .before .near .ensures (c .before .before .before .before .before .before .if1 .taken)) .more) (c .before .after .result) (omega arith)
-    (c .before .before .before .before .before .if2 .taken) (c .before .before .before .before .run-word .result) (c .before .before .before .before .run-word .ensures) (c .before .before .before .over .ensures (c .before .before .if3 .left)) (c .before .after .ensures)
+    turn-run (a .packet .now) (a .dst .now) (a .out) (a .width) (a .reader) (c .before .before .before .before .before .before .before .before .before .before .before .before .before .pre .0) (c .before .before .before .before .before .before .before .before .before .before .before .before .before .pre .1 .0 .0) (l .dst) (l .place) (l .w) (l .i) (l .word) (l .inv) ((c .before .before .before .before .before .before .before .near .ensures .0 (c .before .before .before .before .before .before .if1 .taken)) .more) (c .before .after .result) (omega arith)
+    (c .before .before .before .before .before .if2 .taken) (c .before .before .before .before .run-word .result) (c .before .before .before .before .run-word .ensures) (c .before .before .before .over .ensures .0 (c .before .before .if3 .left)) (c .before .after .ensures)
 
 loop-less : tie.Need-loop-less Inv-loop μ-loop
-loop-less c = omega (arith, ran c .0, (c .before .before .before .before .before .before .before .near .ensures (c .before .before .before .before .before .before .if1 .taken)))
+loop-less c = omega (arith, ran c .0, (c .before .before .before .before .before .before .before .near .ensures .0 (c .before .before .before .before .before .before .if1 .taken)))
 
 loop-again : tie.Need-loop-again Inv-loop μ-loop
 loop-again c = ran c .1
@@ -84,7 +84,7 @@ add-step : tie.Need-add-step Inv-loop μ-loop
 add-step c = omega (arith, c .before .before .before .loop .inv .inside, c .before .before .before .before .before .before .before .before .pre .1 .0)
 
 step-requires : tie.Need-step-requires Inv-loop μ-loop
-step-requires c κs = omega (arith, (c .before .before .near .ensures (c .before .if1 .taken)))
+step-requires c κs = omega (arith, (c .before .before .near .ensures .0 (c .before .if1 .taken)))
 
 add-over : tie.Need-add-over Inv-loop μ-loop
 add-over c = omega (arith, c .before .step .ensures .1)
@@ -107,7 +107,7 @@ returns-2 c =
     turn-last (a .packet .now) (a .dst .now) (a .out) (a .width) (a .reader) (c .before .before .before .before .before .before .before .before .before .before .before .before .before .pre .0) (c .before .before .before .before .before .before .before .before .before .before .before .before .before .pre .1 .0 .0) (l .dst) (l .place) (l .word) (l .w) (l .i) (l .inv) (c .arrived2 .result) (c .arrived2 .ensures)
 
 quad-requires : tie.Need-quad-requires Inv-loop μ-loop
-quad-requires c κs = omega (arith, (c .before .before .before .before .before .before .before .near .ensures (c .before .before .before .before .before .before .if1 .taken)), c .before .before .before .before .before .before .before .before .loop .inv .same, c .before .before .before .before .before .if2 .left, (c .before .before .over2 .ensures (c .before .if4 .left)), c .before .before .before .before .before .before .before .before .before .before .before .before .before .pre .1 .0)
+quad-requires c κs = omega (arith, (c .before .before .before .before .before .before .before .near .ensures .0 (c .before .before .before .before .before .before .if1 .taken)), c .before .before .before .before .before .before .before .before .loop .inv .same, c .before .before .before .before .before .if2 .left, (c .before .before .over2 .ensures .0 (c .before .if4 .left)), c .before .before .before .before .before .before .before .before .before .before .before .before .before .pre .1 .0)
 
 add-taken : tie.Need-add-taken Inv-loop μ-loop
 add-taken c = omega (arith, c .before .before .before .before .before .before .before .step .ensures .1, c .before .before .quad .ensures .1 .1)
@@ -116,21 +116,21 @@ add-i-2 : tie.Need-add-i-2 Inv-loop μ-loop
 add-i-2 c = omega (arith, c .before .before .before .before .before .before .before .before .before .before .before .loop .inv .inside, c .before .before .before .before .before .before .before .before .before .before .before .before .before .before .before .before .pre .1 .0)
 
 after-requires-2 : tie.Need-after-requires-2 Inv-loop μ-loop
-after-requires-2 c κs = omega (arith, (c .before .before .before .before .before .before .before .before .before .before .near .ensures (c .before .before .before .before .before .before .before .before .before .if1 .taken)), c .before .before .before .before .before .before .before .before .before .before .before .before .before .before .edge .ensures, (c .before .before .before .before .before .over2 .ensures (c .before .before .before .before .if4 .left)), c .before .before .quad .ensures .1 .1)
+after-requires-2 c κs = omega (arith, (c .before .before .before .before .before .before .before .before .before .before .near .ensures .0 (c .before .before .before .before .before .before .before .before .before .if1 .taken)), c .before .before .before .before .before .before .before .before .before .before .before .before .before .before .edge .ensures, (c .before .before .before .before .before .over2 .ensures .0 (c .before .before .before .before .if4 .left)), c .before .before .quad .ensures .1 .1)
 
 add-place-2 : tie.Need-add-place-2 Inv-loop μ-loop
-add-place-2 c = omega (arith, c .before .before .before .before .before .before .before .before .before .before .before .before .loop .inv .to, c .before .before .before .before .before .before .before .before .before .before .before .before .before .before .before .before .before .pre .0 .room, (c .before .before .before .before .before .before .over2 .ensures (c .before .before .before .before .before .if4 .left)), c .before .before .before .quad .ensures .1 .1)
+add-place-2 c = omega (arith, c .before .before .before .before .before .before .before .before .before .before .before .before .loop .inv .to, c .before .before .before .before .before .before .before .before .before .before .before .before .before .before .before .before .before .pre .0 .room, (c .before .before .before .before .before .before .over2 .ensures .0 (c .before .before .before .before .before .if4 .left)), c .before .before .before .quad .ensures .1 .1)
 
 loop-less-2 : tie.Need-loop-less-2 Inv-loop μ-loop
-loop-less-2 c = omega (arith, (c .before .before .before .before .before .before .before .before .before .before .before .near .ensures (c .before .before .before .before .before .before .before .before .before .before .if1 .taken)))
+loop-less-2 c = omega (arith, (c .before .before .before .before .before .before .before .before .before .before .before .near .ensures .0 (c .before .before .before .before .before .before .before .before .before .before .if1 .taken)))
 
 loop-again-2 : tie.Need-loop-again-2 Inv-loop μ-loop
 loop-again-2 c =
     let a = c .before .before .before .before .before .before .before .before .before .before .before .before .before .before .before .before .before .args in
     let l = c .before .before .before .before .before .before .before .before .before .before .before .before .loop in
     let v = c .before .before .before .quad in
-    turn-group (a .packet .now) (a .dst .now) (a .out) (a .width) (a .reader) (c .before .before .before .before .before .before .before .before .before .before .before .before .before .before .before .before .before .pre .0) (c .before .before .before .before .before .before .before .before .before .before .before .before .before .before .before .before .before .pre .1 .0 .0) (l .dst) (l .place) (l .w) (l .i) (l .word) (l .inv) ((c .before .before .before .before .before .before .before .before .before .before .before .near .ensures (c .before .before .before .before .before .before .before .before .before .before .if1 .taken)) .more) (c .after2 .result) (omega arith)
-    (omega (arith, c .before .before .before .before .before .before .before .before .before .if2 .left)) ((c .before .before .before .before .before .before .before .before .before .before .before .near .ensures (c .before .before .before .before .before .before .before .before .before .before .if1 .taken)) .short) (c .before .before .before .before .before .before .before .before .step .result) (c .before .before .before .before .before .before .before .before .step .ensures .0) (c .before .before .before .before .before .before .over2 .ensures (c .before .before .before .before .before .if4 .left)) (v .last .0) (v .result) (v .ensures .0) (v .ensures .1 .0) (v .ensures .1 .1) (c .after2 .ensures)
+    turn-group (a .packet .now) (a .dst .now) (a .out) (a .width) (a .reader) (c .before .before .before .before .before .before .before .before .before .before .before .before .before .before .before .before .before .pre .0) (c .before .before .before .before .before .before .before .before .before .before .before .before .before .before .before .before .before .pre .1 .0 .0) (l .dst) (l .place) (l .w) (l .i) (l .word) (l .inv) ((c .before .before .before .before .before .before .before .before .before .before .before .near .ensures .0 (c .before .before .before .before .before .before .before .before .before .before .if1 .taken)) .more) (c .after2 .result) (omega arith)
+    (omega (arith, c .before .before .before .before .before .before .before .before .before .if2 .left)) ((c .before .before .before .before .before .before .before .before .before .before .before .near .ensures .0 (c .before .before .before .before .before .before .before .before .before .before .if1 .taken)) .short) (c .before .before .before .before .before .before .before .before .step .result) (c .before .before .before .before .before .before .before .before .step .ensures .0) (c .before .before .before .before .before .before .over2 .ensures .0 (c .before .before .before .before .before .if4 .left)) (v .last .0) (v .result) (v .ensures .0) (v .ensures .1 .0) (v .ensures .1 .1) (c .after2 .ensures)
 
 arrived-requires-3 : tie.Need-arrived-requires-3 Inv-loop μ-loop
 arrived-requires-3 c κs =
