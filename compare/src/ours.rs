@@ -1,28 +1,22 @@
 //! The project's decoder behind its C interface: the static library, or with the feature `mock`
 //! the original in its place.
 
-#[cfg(not(feature = "mock"))]
+// The C interface as the crate in rust/ has it.
+#[path = "../../rust/src/ffi.rs"]
+#[cfg_attr(feature = "mock", allow(dead_code))]
 mod ffi;
+#[cfg(not(feature = "mock"))]
+mod library;
 #[cfg(any(test, feature = "mock"))]
 pub mod mock;
 
 #[cfg(not(feature = "mock"))]
-pub use ffi::Library as Ours;
+pub use library::Library as Ours;
 #[cfg(feature = "mock")]
 pub use mock::Mock as Ours;
 
 use crate::size::Shape;
-
-/// The answer for a stream, as the C interface gives it. The height is the coded height H.
-#[repr(C)]
-#[derive(Debug, Clone, Copy, Default, PartialEq, Eq)]
-pub struct Decoded {
-    pub refusal: u64,
-    pub width: u64,
-    pub height: u64,
-    pub rows: u64,
-    pub stopped: u64,
-}
+pub use ffi::Decoded;
 
 /// The lent slices: green, red, blue and work.
 pub type Slices = [Vec<i32>; 4];

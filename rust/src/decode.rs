@@ -65,21 +65,7 @@ pub fn decode_stream_into(
     blue: &mut [i32],
     work: &mut [i32],
 ) -> Result<Decoded, Refusal> {
-    // SAFETY: each pointer and length are those of one slice, no two of which share a byte.
-    let answer = unsafe {
-        ffi::arw6_decode_stream(
-            stream.as_ptr(),
-            stream.len(),
-            green.as_mut_ptr(),
-            green.len(),
-            red.as_mut_ptr(),
-            red.len(),
-            blue.as_mut_ptr(),
-            blue.len(),
-            work.as_mut_ptr(),
-            work.len(),
-        )
-    };
+    let answer = ffi::decode_stream(stream, green, red, blue, work);
     match answer.refusal {
         0 => Ok(Decoded {
             width: answer.width as usize,

@@ -1,8 +1,9 @@
-//! The C interface of the library `libarw6.a`.
+//! The C interface of the library `libarw6.a`, called with slices. compare/ takes this file too.
 
-/// The answer for a stream; a refusal has 0 in all other fields.
+/// The answer for a stream; a refusal has 0 in all other fields. The height is the coded height H.
 #[repr(C)]
-pub struct Answer {
+#[derive(Debug, Clone, Copy, Default, PartialEq, Eq)]
+pub struct Decoded {
     pub refusal: u64,
     pub width: u64,
     pub height: u64,
@@ -11,13 +12,8 @@ pub struct Answer {
 }
 
 extern "C" {
-    pub fn arw6_tile_count(
-        strip: *const u8,
-        strip_len: usize,
-        frame_width: usize,
-        frame_height: usize,
-    ) -> usize;
-    pub fn arw6_tile_field(
+    fn arw6_tile_count(strip: *const u8, strip_len: usize, frame_width: usize, frame_height: usize) -> usize;
+    fn arw6_tile_field(
         strip: *const u8,
         strip_len: usize,
         frame_width: usize,
@@ -25,7 +21,7 @@ extern "C" {
         ordinal: usize,
         field: usize,
     ) -> usize;
-    pub fn arw6_decode_stream(
+    fn arw6_decode_stream(
         stream: *const u8,
         stream_len: usize,
         green: *mut i32,
@@ -36,5 +32,42 @@ extern "C" {
         blue_len: usize,
         work: *mut i32,
         work_len: usize,
-    ) -> Answer;
+    ) -> Decoded;
+}
+
+/// How many tiles a strip has in a frame of a width and a height.
+pub fn tile_count(strip: &[u8], frame: (usize, usize)) -> usize {
+    // SAFETY: the pointer and the length are those of one slice, which the call only reads.
+    unsafe { arw6_tile_count(strip.as_ptr(), strip.len(), frame.0, frame.1) }
+}
+
+/// Field 0 to 5 of a tile: offset, length, x, y, width, height.
+pub fn tile_field(strip: &[u8], frame: (usize, usize), ordinal: usize, field: usize) -> usize {
+    // SAFETY: as for the count.
+    unsafe { arw6_tile_field(strip.as_ptr(), strip.len(), frame.0, frame.1, ordinal, field) }
+}
+
+/// One tile into the planes' slices, with the work slice.
+pub fn decode_stream(
+    stream: &[u8],
+    green: &mut [i32],
+    red: &mut [i32],
+    blue: &mut [i32],
+    work: &mut [i32],
+) -> Decoded {
+    // SAFETY: each pointer and length are those of one slice, no two of which share a byte.
+    unsafe {
+        arw6_decode_stream(
+            stream.as_ptr(),
+            stream.len(),
+            green.as_mut_ptr(),
+            green.len(),
+            red.as_mut_ptr(),
+            red.len(),
+            blue.as_mut_ptr(),
+            blue.len(),
+            work.as_mut_ptr(),
+            work.len(),
+        )
+    }
 }

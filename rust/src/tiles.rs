@@ -16,11 +16,8 @@ pub struct TileStream {
 /// Locates the tile streams of a strip that covers a frame of `full_w` by `full_h`. An empty list
 /// is refusal 1.
 pub fn find_streams(strip: &[u8], full_w: usize, full_h: usize) -> Vec<TileStream> {
-    // SAFETY: the pointer and the length are those of one slice, which the calls only read.
-    let count = unsafe { ffi::arw6_tile_count(strip.as_ptr(), strip.len(), full_w, full_h) };
-    let field = |ordinal: usize, field: usize| unsafe {
-        ffi::arw6_tile_field(strip.as_ptr(), strip.len(), full_w, full_h, ordinal, field)
-    };
+    let frame = (full_w, full_h);
+    let field = |ordinal: usize, field: usize| ffi::tile_field(strip, frame, ordinal, field);
     let tile = |ordinal: usize| TileStream {
         offset: field(ordinal, 0),
         length: field(ordinal, 1),
@@ -29,5 +26,5 @@ pub fn find_streams(strip: &[u8], full_w: usize, full_h: usize) -> Vec<TileStrea
         width: field(ordinal, 4),
         height: field(ordinal, 5),
     };
-    (0..count).map(tile).collect()
+    (0..ffi::tile_count(strip, frame)).map(tile).collect()
 }

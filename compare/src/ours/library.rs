@@ -1,0 +1,51 @@
+//! The static libraries `libarw6.a` and `libcoefficients.a`.
+
+use super::{ffi, Decoded, Decoder, PacketDecoder, Slices};
+use crate::size::Shape;
+
+extern "C" {
+    fn arw6_packet(
+        packet: *const u8,
+        packet_len: usize,
+        m: usize,
+        columns: usize,
+        records: usize,
+        band: *mut i32,
+        band_len: usize,
+    ) -> u64;
+}
+
+/// The proved library.
+pub struct Library;
+
+impl Decoder for Library {
+    fn tile_count(&self, strip: &[u8], frame: (usize, usize)) -> usize {
+        ffi::tile_count(strip, frame)
+    }
+
+    fn tile_field(&self, strip: &[u8], frame: (usize, usize), ordinal: usize, field: usize) -> usize {
+        ffi::tile_field(strip, frame, ordinal, field)
+    }
+
+    fn decode_stream(&self, stream: &[u8], [green, red, blue, work]: &mut Slices) -> Decoded {
+        ffi::decode_stream(stream, green, red, blue, work)
+    }
+}
+
+impl PacketDecoder for Library {
+    fn packet(&self, packet: &[u8], shape: Shape, records: usize, band: &mut [i32]) -> Option<usize> {
+        // SAFETY: each pointer and length are those of one slice, which share no byte.
+        let answer = unsafe {
+            arw6_packet(
+                packet.as_ptr(),
+                packet.len(),
+                shape.m,
+                shape.columns,
+                records,
+                band.as_mut_ptr(),
+                band.len(),
+            )
+        };
+        answer.checked_sub(1).map(|stopped| stopped as usize)
+    }
+}
