@@ -2,7 +2,7 @@
 use mathlib.Core.Path.{_≡_, refl, sym, ap, _∙_}
 use mathlib.Core.Bool.{Bool, true, false}
 use mathlib.Core.Logic.{inl, inr, _↔_}
-use Prim.Native.Nat.{ℕ, _+_, _-_, _/_, _%_, _^_, _≤_, _<_}
+use Prim.Native.Nat.{ℕ, _+_, _*_, _/_, _%_, _^_, _≤_, _<_}
 use native.Mathlib.Omega.{arith}
 use lib.Dec.{T}
 use borrow.Author.Tests.{eqb-false, not-true}
@@ -10,10 +10,10 @@ use lib.IntN.{ℤ, pos, natAbs}
 use mir.Syntax.{w16}
 use Rattle.wrap32.specs.Cut.{cut}
 use Rattle.format.specs.Lifting.{Plane, Shape, SameOn}
-use Rattle.format.specs.Sizes.{Colour, green, red, blue, Level, l1, l2, l3, Group, base, detail, final, stripes, guarded, columns, planeRows, planeColumns}
+use Rattle.format.specs.Sizes.{Colour, green, red, blue, Level, l1, l2, l3, Group, base, detail, final, stripes, guarded, multiplier, columns, planeRows, planeColumns}
 use Rattle.format.specs.Coefficients.{Coefs}
 use Rattle.format.specs.Table.{start, height, lead, highs, Source, S, E, Band, hl, lh, hh, source, bandRows, mode, chosen, fromComponent, fromRow, GoesIn, summed, lifted, picked}
-use Rattle.format.specs.Synthesis.{level, value, bands, step, ll1, ll2, ll3, outcome, planeOf, planes}
+use Rattle.format.specs.Synthesis.{value, bands, step, ll1, ll2, ll3, outcome, planeOf, planes}
 use Rattle.format.specs.Recovery.{readPlane, back, differences, unstep, given, unband, summedBack, liftedBack, outOf, pickedBack, recover}
 use Rattle.format.proofs.LevelLaws.{Fits, level-fits, level-same, ll-back, band-back}
 use Rattle.format.proofs.GreenLaws.{greens-same, d-back, l-back}
@@ -62,19 +62,31 @@ shape true n l2 t = (omega arith, inl refl)
 shape true n l3 t = refl
 
 -- each level gives as many rows as the next begins with, and the last those of the planes
-after : Bool → ℕ → Level → ℕ
+abbrev pub after : Bool → ℕ → Level → ℕ
 after g n l1 = height g n l2
 after g n l2 = height g n l3
 after g n l3 = planeRows g n
 
-rows-after : (g : Bool) (n : ℕ) (l : Level) → Tall g n → height g n l + highs g l (height g n l) ≡ after g n l
-unfolding after
+pub rows-after : (g : Bool) (n : ℕ) (l : Level) → Tall g n → height g n l + highs g l (height g n l) ≡ after g n l
 rows-after false n l1 t = omega arith
 rows-after false n l2 t = omega arith
 rows-after false n l3 t = omega arith
 rows-after true n l1 t = omega arith
 rows-after true n l2 t = omega arith
 rows-after true n l3 t = omega arith
+
+-- the most rows that a level gives, and the least that planes have
+pub after-most : (g : Bool) (n : ℕ) (l : Level) → after g n l ≤ 2 * multiplier (detail l) * n
+after-most false n l1 = omega arith
+after-most false n l2 = omega arith
+after-most false n l3 = omega arith
+after-most true n l1 = omega arith
+after-most true n l2 = omega arith
+after-most true n l3 = omega arith
+
+pub planes-least : (g : Bool) (n : ℕ) → Tall g n → 8 ≤ planeRows g n
+planes-least false n t = omega arith
+planes-least true n t = omega arith
 
 module _ (g : Bool) (n w : ℕ) (t : Tall g n) (k : w % 16 ≡ 0) (i : Colour) where
   abbrev llAt : Coefs → Level → Plane
@@ -116,15 +128,15 @@ module _ (g : Bool) (n w : ℕ) (t : Tall g n) (k : w % 16 ≡ 0) (i : Colour) w
     ll1-like = sums-same g (u base i 0) (v base i 0) (height g n l1) (w / 16) (λ y x p q. e base 0 (y + start g) x tt (summed i y p) q)
 
     ll2-like : SameOn (height g n l2) (w / 8) (llAt u l2) (llAt v l2)
-    unfolding ll2 after
+    unfolding ll2
     ll2-like y x p q = step-like l1 ll1-like y x (omega (arith, rows-after g n l1 t)) (omega arith)
 
     ll3-like : SameOn (height g n l3) (w / 4) (llAt u l3) (llAt v l3)
-    unfolding ll3 after
+    unfolding ll3
     ll3-like y x p q = step-like l2 ll2-like y x (omega (arith, rows-after g n l2 t)) (omega arith)
 
     pub outcome-like : SameOn (planeRows g n) (w / 2) (outcome g n w i u) (outcome g n w i v)
-    unfolding outcome after
+    unfolding outcome
     outcome-like y x p q = step-like l3 ll3-like y x (omega (arith, rows-after g n l3 t)) (omega arith)
 
   -- ---- backward: from what has the outcome on its rows
@@ -136,15 +148,15 @@ module _ (g : Bool) (n w : ℕ) (t : Tall g n) (k : w % 16 ≡ 0) (i : Colour) w
     under l r = ll-back _ _ _ _ (shape g n l t) (llAt v l) _ (given g n w l out) r (llAt-fits v l) (bands-fit v f l lh)
 
     got3 : Got l3
-    unfolding outcome after
+    unfolding outcome
     got3 y x p q = s y x (omega (arith, rows-after g n l3 t)) (omega arith)
 
     got2 : Got l2
-    unfolding ll3 after
+    unfolding ll3
     got2 y x p q = under l3 got3 y x (omega (arith, rows-after g n l2 t)) (omega arith)
 
     got1 : Got l1
-    unfolding ll2 after
+    unfolding ll2
     got1 y x p q = under l2 got2 y x (omega (arith, rows-after g n l1 t)) (omega arith)
 
     got : (l : Level) → Got l

@@ -1,7 +1,7 @@
 -- Lifting is undone, and depends on no place beyond its bands. Assumes nothing.
 use mathlib.Core.Path.{_≡_, refl, _∙_}
 use mathlib.Core.Bool.{Bool, true, false, cond}
-use mathlib.Core.Logic.{_⊎_, ⊎-elim}
+use mathlib.Core.Logic.{⊎-elim}
 use Prim.Native.Nat.{ℕ, _+_, _-_, _*_, _/_, _%_, _≤_, _<_, min}
 use native.Mathlib.Omega.{arith}
 use lib.Dec.{eqb}
@@ -9,7 +9,7 @@ use borrow.Author.Tests.{eqb-true, eqb-false}
 use lib.IntN.{ℤ}
 use mir.Syntax.{w32}
 use mir.Val.{SFits}
-use Rattle.wrap32.proofs.Laws.{addW-fits, subW-fits, sub-add, add-sub}
+use Rattle.wrap32.proofs.Laws.{of-cond, addW-fits, subW-fits, sub-add, add-sub}
 use Rattle.format.specs.Lifting.{Signal, weave, Lead, lowLeads, highLeads, join, lowPlaces, highPlaces, taken, added, lowOut, highOut, lift, highsOf, lowsOf, Shape, Same}
 
 pub weave-even : (a b : Signal) (y : ℕ) → weave a b (2 * y) ≡ a y
@@ -26,14 +26,9 @@ weave-odd a b y =
     let h : (2 * y + 1) / 2 ≡ y = omega arith in
     rw (e, h)
 
--- a test that both cases pass
-pub either : (P : ℤ → Type 0) (b : Bool) (x y : ℤ) → P x → P y → P (cond b x y)
-either P true x y p q = p
-either P false x y p q = q
-
 pub weave-fits : (a b : Signal) → ((k : ℕ) → SFits w32 (a k)) → ((k : ℕ) → SFits w32 (b k)) → (k : ℕ) → SFits w32 (weave a b k)
 unfolding weave
-weave-fits a b f g k = either (SFits w32) (eqb (k % 2) 0) (a (k / 2)) (b (k / 2)) (f (k / 2)) (g (k / 2))
+weave-fits a b f g k = of-cond (SFits w32) (eqb (k % 2) 0) (a (k / 2)) (b (k / 2)) (λ _. f (k / 2)) (λ _. g (k / 2))
 
 -- two tests of one number with equal outcomes where they can be met
 pub branch : (b : Bool) (x x′ y y′ : ℤ) → (b ≡ true → x ≡ x′) → (b ≡ false → y ≡ y′) → cond b x y ≡ cond b x′ y′

@@ -15,17 +15,17 @@ use Rattle.wrap32.proofs.Laws.{addW-assoc, addW-comm}
 use Rattle.lists.specs.Lists.{tab, part, rows}
 use Rattle.lists.proofs.Tab.{tab-same}
 use Rattle.format.specs.Lifting.{Plane, weave}
-use Rattle.format.specs.Sizes.{final, planeRows}
+use Rattle.format.specs.Sizes.{l3, final, planeRows}
 use Rattle.format.specs.Table.{chosen}
 use Rattle.format.specs.Synthesis.{quarter, guess, around, oddGreen, evenGreen, bothGreens, flat}
 use Rattle.format.proofs.LiftingLaws.{branch}
 use Rattle.format.proofs.TableLaws.{chosen-in}
-use Rattle.format.proofs.Exact.{Tall}
+use Rattle.format.proofs.Exact.{after-most, planes-least}
 use Rattle.lifting.specs.Lift.{at}
 use Rattle.passes.specs.declared.Band.{Band}
 use Rattle.passes.specs.Held.{place, unit, rowAt, held, readAt, Sized, line}
 use Rattle.passes.specs.Level.{bandAt, bandRow, Whole}
-use Rattle.passes.proofs.PlaceLaws.{place-is, band-is}
+use Rattle.passes.proofs.PlaceLaws.{place-is, band-is, pick-same}
 use Rattle.passes.proofs.HeldLaws.{held-line, read-line}
 use Rattle.passes.proofs.Planes.{at-line, rows-same}
 use Rattle.green.specs.Green.{quarterOf, oddOf, evenOf, firstOf, right, oddRow, evenAt, fullAt, fullRow, Inner, oddG, fullG, top, detailBand}
@@ -100,10 +100,6 @@ module _ (w : List ℤ) (b : Band) (a c r : ℕ) (l d : Plane)
       ∙ full-line c l d r (oddGreen c l d) y)
 
 -- ---- the rows of details that are used
-one-of : (a : ℕ) (t : Bool) → cond t a (cond t a a) ≡ a
-one-of a true = refl
-one-of a false = refl
-
 shifted : (y k : ℕ) (t : Bool) → y + cond t 0 (cond t 0 k) ≡ cond t y (y + k)
 shifted y k true = omega arith
 shifted y k false = refl
@@ -111,9 +107,9 @@ shifted y k false = refl
 pub detail-row : (g : Bool) (w n y : ℕ) → bandAt (detailBand (top g)) (w / 2) y ≡ rowAt w n final 0 (chosen g y)
 unfolding chosen
 detail-row false w n y =
-    band-is (detailBand 4) (w / 2) y ∙ (λ i. place 0 8 1 (w / 2) (one-of 0 (ltb y 4) i) (shifted y 4 (ltb y 4) i))
+    band-is (detailBand 4) (w / 2) y ∙ (λ i. place 0 8 1 (w / 2) (pick-same y 4 4 0 i) (shifted y 4 (ltb y 4) i))
 detail-row true w n y =
-    band-is (detailBand 2) (w / 2) y ∙ (λ i. place 0 8 1 (w / 2) (one-of 0 (ltb y 2) i) (shifted y 6 (ltb y 2) i))
+    band-is (detailBand 2) (w / 2) y ∙ (λ i. place 0 8 1 (w / 2) (pick-same y 2 2 0 i) (shifted y 6 (ltb y 2) i))
 
 module _ (g : Bool) (w n : ℕ) (s : Sized g w n) where
   half : w / 2 ≡ 8 * (w / 16)
@@ -132,13 +128,9 @@ module _ (g : Bool) (w n : ℕ) (s : Sized g w n) where
   pub detail-inner : Inner (detailBand (top g)) (w / 2) (planeRows g n) (84 * unit w n)
   detail-inner y b = omega (arith, detail-room y b)
 
-  rows-most : (g : Bool) → planeRows g n ≤ 8 * n
-  rows-most false = omega arith
-  rows-most true = omega arith
-
   average-room : (y : ℕ) → y ≤ planeRows g n → 84 * unit w n + y * (w / 2) ≤ 148 * unit w n
   average-room y b =
-      let m : y * (w / 2) ≤ (8 * n) * (8 * (w / 16)) = rw (← half) (mul-le-mul-right (w / 2) (omega (arith, b, rows-most g))) in
+      let m : y * (w / 2) ≤ (8 * n) * (8 * (w / 16)) = rw (← half) (mul-le-mul-right (w / 2) (omega (arith, b, after-most g n l3))) in
       omega (arith, m)
 
   -- what the rows of full green ask for
@@ -146,16 +138,12 @@ module _ (g : Bool) (w n : ℕ) (s : Sized g w n) where
   green-asks size green e f =
       let t : w ≡ 2 * (w / 2) = omega (arith, s .whole) in (
         omega (arith, s .wide),
-        least g (s .tall),
+        omega (arith, planes-least g n (s .tall)),
         omega (arith, average-room (planeRows g n) (omega arith), e),
         f ∙ ap (λ (j : ℕ). planeRows g n * j) t,
         detail-inner,
         record { rows = omega arith; components = omega arith },
       )
-    where
-      least : (g : Bool) → Tall g n → 1 ≤ planeRows g n
-      least false t = omega arith
-      least true t = omega arith
 
   pub final-flat : (work : List ℤ) → length work ≡ 256 * unit w n → rows (planeRows g n) (fullG work (detailBand (top g)) (84 * unit w n) (w / 2) (planeRows g n)) ≡ flat (planeRows g n) w (bothGreens (planeRows g n) (w / 2) (readAt work (84 * unit w n) (w / 2)) (λ y. held w n work final 0 (chosen g y)))
   final-flat work e =

@@ -1,6 +1,6 @@
 -- E has been applied to all rows of a level that go in as E, and to no other. Assumes nothing.
-use mathlib.Core.Path.{_≡_, refl, ap, _∙_}
-use mathlib.Core.Bool.{Bool, true, false, cond}
+use mathlib.Core.Path.{_≡_, ap, _∙_}
+use mathlib.Core.Bool.{Bool, true, false}
 use mathlib.Core.List.{List}
 use mathlib.Core.Logic.{inl, inr}
 use Prim.Native.Nat.{ℕ, _+_, _-_, _*_, _/_, _%_, _≤_, _<_}
@@ -10,6 +10,7 @@ use borrow.Author.Tests.{ltb-true, ltb-false}
 use lib.IntN.{ℤ}
 use lib.ListN.{length}
 use Rattle.wrap32.specs.Cut.{edgeDetail}
+use Rattle.wrap32.proofs.Laws.{of-cond}
 use Rattle.lists.specs.Lists.{tab, part}
 use Rattle.lists.proofs.Tab.{tab-same}
 use Rattle.format.specs.Sizes.{Level, l1, l2, l3, detail, multiplier, columns}
@@ -92,10 +93,6 @@ module _ (w n : ℕ) (whole : w % 16 ≡ 0) (l : Level) (odd : Bool) (c : ℕ) (
         ∙ ap (edgeRow cols odd) (run-out work big r k (omega arith) c s cb (λ e g. omega arith))
         ∙ with-edge s (omega arith)
 
-    done-on : (t : Bool) (a b : Source) → (t ≡ true → Done a) → (t ≡ false → Done b) → Done (cond t a b)
-    done-on true a b f g = f refl
-    done-on false a b f g = g refl
-
     pub edges-below : Between 0 (packetAt w n (detail l)) (run (run work r k) r′ k′) work
     edges-below s m a b = run-below (run work r k) big′ r′ k′ q s m a b ∙ run-below work big r k (omega arith) s m a b
 
@@ -111,16 +108,13 @@ module _ (w n : ℕ) (whole : w % 16 ≡ 0) (l : Level) (odd : Bool) (work : Lis
   abbrev Plain : Source → Type 0
   Plain s = Done w n whole l odd 1 (omega arith) work big 0 e h e (omega arith) (omega arith) s
 
-  plain-on : (t : Bool) (a b : Source) → (t ≡ true → Plain a) → (t ≡ false → Plain b) → Plain (cond t a b)
-  plain-on = done-on w n whole l odd 1 (omega arith) work big 0 e h e (omega arith) (omega arith)
-
   plain-is : (d s : ℕ) → d < 3 → s < (n + 1) * multiplier (detail l) → (d ≡ 1 → (0 ≤ s → 0 + e ≤ s) × (h ≤ s → h + e ≤ s)) → Plain (S d s)
   plain-is = as-is w n whole l odd 1 (omega arith) work big 0 e h e (omega arith) (omega arith)
 
   plain-done : (b : table.Band) (y : ℕ) → y < h → Plain (plain e h b y)
   plain-done b y p =
-      plain-on (ltb y e) (first e b y) _ (λ t. begins b (ltb-true y e t)) λ t.
-      plain-on (ltb y (h - e)) (middle e b y) (last e h b (y - (h - e))) (λ u. within b (ltb-false y e t) (ltb-true y (h - e) u)) (λ u. ends b (ltb-false y (h - e) u))
+      of-cond Plain (ltb y e) (first e b y) _ (λ t. begins b (ltb-true y e t)) λ t.
+      of-cond Plain (ltb y (h - e)) (middle e b y) (last e h b (y - (h - e))) (λ u. within b (ltb-false y e t) (ltb-true y (h - e) u)) (λ u. ends b (ltb-false y (h - e) u))
     where
       begins : (b : table.Band) → y < e → Plain (first e b y)
       begins hl u = plain-is 0 y (omega arith) (omega arith) (λ i. absurd (omega (arith, i)))
@@ -166,9 +160,6 @@ module _ (w n : ℕ) (odd : Bool) (work : List ℤ) where
     abbrev Guarded2 : Source → Type 0
     Guarded2 o = Done w n (s .whole) l2 odd 0 (omega arith) work big 1 1 2 0 (omega (arith, s .tall)) (omega (arith, s .tall)) o
 
-    guarded2-on : (t : Bool) (a b : Source) → (t ≡ true → Guarded2 a) → (t ≡ false → Guarded2 b) → Guarded2 (cond t a b)
-    guarded2-on = done-on w n (s .whole) l2 odd 0 (omega arith) work big 1 1 2 0 (omega (arith, s .tall)) (omega (arith, s .tall))
-
     guarded2-is : (d r : ℕ) → d < 3 → r < (n + 1) * 2 → (d ≡ 0 → (1 ≤ r → 1 + 1 ≤ r) × (2 ≤ r → 2 + 0 ≤ r)) → Guarded2 (S d r)
     guarded2-is = as-is w n (s .whole) l2 odd 0 (omega arith) work big 1 1 2 0 (omega (arith, s .tall)) (omega (arith, s .tall))
 
@@ -176,11 +167,11 @@ module _ (w n : ℕ) (odd : Bool) (work : List ℤ) where
     unfolding source
     guarded2-done hl y p = guarded2-is 0 (y + 2) (omega arith) (omega arith) (λ i. ((λ j. omega arith), (λ j. omega (arith, j))))
     guarded2-done lh y p =
-        guarded2-on (eqb y 0) (S 0 0) (S 1 (y + 1))
+        of-cond Guarded2 (eqb y 0) (S 0 0) (S 1 (y + 1))
         (λ t. guarded2-is 0 0 (omega arith) (omega arith) (λ i. ((λ j. absurd (omega (arith, j))), (λ j. absurd (omega (arith, j))))))
         (λ t. guarded2-is 1 (y + 1) (omega arith) (omega arith) (λ i. absurd (omega (arith, i))))
     guarded2-done hh y p =
-        guarded2-on (eqb y 0) (E 0 1) (S 2 (y + 1))
+        of-cond Guarded2 (eqb y 0) (E 0 1) (S 2 (y + 1))
         (λ t. in-first w n (s .whole) l2 odd 0 (omega arith) work big 1 1 2 0 (omega (arith, s .tall)) (omega (arith, s .tall)) 1 (omega arith) (omega arith))
         (λ t. guarded2-is 2 (y + 1) (omega arith) (omega arith) (λ i. absurd (omega (arith, i))))
 
@@ -196,26 +187,23 @@ module _ (w n : ℕ) (odd : Bool) (work : List ℤ) where
     abbrev Guarded3 : Source → Type 0
     Guarded3 o = Done w n (s .whole) l3 odd 0 (omega arith) work big 2 1 (4 * n - 2 + 4) 1 (omega (arith, s .tall)) (omega (arith, s .tall)) o
 
-    guarded3-on : (t : Bool) (a b : Source) → (t ≡ true → Guarded3 a) → (t ≡ false → Guarded3 b) → Guarded3 (cond t a b)
-    guarded3-on = done-on w n (s .whole) l3 odd 0 (omega arith) work big 2 1 (4 * n - 2 + 4) 1 (omega (arith, s .tall)) (omega (arith, s .tall))
-
     guarded3-is : (d r : ℕ) → d < 3 → r < (n + 1) * 4 → (d ≡ 0 → (2 ≤ r → 2 + 1 ≤ r) × (4 * n - 2 + 4 ≤ r → 4 * n - 2 + 4 + 1 ≤ r)) → Guarded3 (S d r)
     guarded3-is = as-is w n (s .whole) l3 odd 0 (omega arith) work big 2 1 (4 * n - 2 + 4) 1 (omega (arith, s .tall)) (omega (arith, s .tall))
 
     guarded3-done : (b : table.Band) (y : ℕ) → y < table.bandRows (4 * n - 2) (4 * n - 2) b → Guarded3 (source true l3 (4 * n - 2) b y)
     unfolding source
     guarded3-done hl y p =
-        guarded3-on (eqb y 0) (S 0 0) (S 0 (y + 3))
+        of-cond Guarded3 (eqb y 0) (S 0 0) (S 0 (y + 3))
         (λ t. guarded3-is 0 0 (omega arith) (omega arith) (λ i. ((λ j. absurd (omega (arith, j))), (λ j. absurd (omega (arith, j))))))
         (λ t. guarded3-is 0 (y + 3) (omega arith) (omega (arith, s .tall)) (λ i. ((λ j. omega arith), (λ j. absurd (omega (arith, j))))))
     guarded3-done lh y p =
-        guarded3-on (eqb y 0) (S 0 1) _ (λ t. guarded3-is 0 1 (omega arith) (omega arith) (λ i. ((λ j. absurd (omega (arith, j))), (λ j. absurd (omega (arith, j)))))) λ t.
-        guarded3-on (eqb (y + 1) (4 * n - 2)) (S 0 (4 * n - 2 + 3)) (S 1 (y + 3))
+        of-cond Guarded3 (eqb y 0) (S 0 1) _ (λ t. guarded3-is 0 1 (omega arith) (omega arith) (λ i. ((λ j. absurd (omega (arith, j))), (λ j. absurd (omega (arith, j)))))) λ t.
+        of-cond Guarded3 (eqb (y + 1) (4 * n - 2)) (S 0 (4 * n - 2 + 3)) (S 1 (y + 3))
         (λ u. guarded3-is 0 (4 * n - 2 + 3) (omega arith) (omega (arith, s .tall)) (λ i. ((λ j. omega (arith, s .tall)), (λ j. absurd (omega (arith, j))))))
         (λ u. guarded3-is 1 (y + 3) (omega arith) (omega (arith, s .tall)) (λ i. absurd (omega (arith, i))))
     guarded3-done hh y p =
-        guarded3-on (eqb y 0) (E 0 2) _ (λ t. in-first w n (s .whole) l3 odd 0 (omega arith) work big 2 1 (4 * n - 2 + 4) 1 (omega (arith, s .tall)) (omega (arith, s .tall)) 2 (omega arith) (omega arith)) λ t.
-        guarded3-on (eqb (y + 1) (4 * n - 2)) (E 0 (4 * n - 2 + 4)) (S 2 (y + 3))
+        of-cond Guarded3 (eqb y 0) (E 0 2) _ (λ t. in-first w n (s .whole) l3 odd 0 (omega arith) work big 2 1 (4 * n - 2 + 4) 1 (omega (arith, s .tall)) (omega (arith, s .tall)) 2 (omega arith) (omega arith)) λ t.
+        of-cond Guarded3 (eqb (y + 1) (4 * n - 2)) (E 0 (4 * n - 2 + 4)) (S 2 (y + 3))
         (λ u. in-second w n (s .whole) l3 odd 0 (omega arith) work big 2 1 (4 * n - 2 + 4) 1 (omega (arith, s .tall)) (omega (arith, s .tall)) (4 * n - 2 + 4) (omega arith) (omega arith))
         (λ u. guarded3-is 2 (y + 3) (omega arith) (omega (arith, s .tall)) (λ i. absurd (omega (arith, i))))
 

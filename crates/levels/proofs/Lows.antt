@@ -1,6 +1,6 @@
 -- Levels 1 and 2: what they leave in the work slice. Assumes nothing.
 use mathlib.Core.Path.{_≡_, refl, sym, ap, _∙_}
-use mathlib.Core.Bool.{Bool, true, false, cond}
+use mathlib.Core.Bool.{Bool, true, false}
 use mathlib.Core.List.{List}
 use Prim.Native.Nat.{ℕ, suc, _+_, _-_, _*_, _/_, _%_, _≤_, _<_}
 use native.Mathlib.Nat.{mul-le-mul-right}
@@ -10,16 +10,17 @@ use lib.IntN.{ℤ, pos}
 use lib.ListN.{length, getD}
 use mir.Syntax.{w16}
 use Rattle.wrap32.specs.Cut.{cut}
+use Rattle.wrap32.proofs.Laws.{of-cond}
 use Rattle.lists.specs.Lists.{tab, part, putAt, rows}
 use Rattle.lists.proofs.Tab.{length-tab, tab-same, getD-part, length-put}
 use Rattle.lists.proofs.Rows.{length-rows}
 use Rattle.lists.proofs.Part.{part-put-in, part-put-below, part-put-above}
 use Rattle.format.specs.Lifting.{Plane}
-use Rattle.format.specs.Sizes.{Colour, green, Level, l1, l2, l3, base, detail, multiplier, columns, planeRows}
-use Rattle.format.specs.Table.{start, height, highs, S, hl, lh, hh, source, bandRows, fromComponent, fromRow}
+use Rattle.format.specs.Sizes.{Colour, green, Level, l1, l2, l3, base, detail, multiplier, columns}
+use Rattle.format.specs.Table.{start, height, highs, Source, S, hl, lh, hh, source, bandRows, fromComponent, fromRow}
 use Rattle.format.specs.Table as table
 use Rattle.format.specs.Synthesis.{value, bands, step, ll1, ll2, flat}
-use Rattle.format.proofs.Exact.{Tall}
+use Rattle.format.proofs.Exact.{Tall, rows-after, after-most}
 use Rattle.format.proofs.PlaceLaws.{sums-same}
 use Rattle.lifting.specs.Lift.{at, sumRow}
 use Rattle.passes.specs.declared.Level as code
@@ -56,19 +57,6 @@ held-same w n z m k l a e f g h c r x i j d =
     sym (getD-part m o q x (pos 0) d)
     ∙ ap (λ (t : List ℤ). getD t x (pos 0)) (f o q (omega (arith, p .0, g)) (omega (arith, p .1, h)))
     ∙ getD-part k o q x (pos 0) d
-
--- ---- sizes of outcomes
-pub after-1 : (g : Bool) (n : ℕ) → Tall g n → rowsAfter g n l1 ≡ height g n l2
-after-1 false n t = omega arith
-after-1 true n t = omega arith
-
-pub after-2 : (g : Bool) (n : ℕ) → Tall g n → rowsAfter g n l2 ≡ height g n l3
-after-2 false n t = omega arith
-after-2 true n t = omega arith
-
-pub after-3 : (g : Bool) (n : ℕ) → Tall g n → rowsAfter g n l3 ≡ planeRows g n
-after-3 false n t = omega arith
-after-3 true n t = omega arith
 
 -- ---- band 0
 module _ (g : Bool) (w n : ℕ) (s : Sized g w n) (work after : List ℤ) (z : length work ≡ 256 * unit w n) (e : after ≡ summed (w / 16) work (start g) (n - start g)) where
@@ -124,36 +112,23 @@ module _ (g : Bool) (w n : ℕ) (s : Sized g w n) (work after : List ℤ) (z : l
       room v a = let m : suc (v + start g) * k ≤ (n + 1) * k = mul-le-mul-right k (omega (arith, a)) in omega (arith, m, z)
 
 -- ---- level 1: no row goes in as E
-plain-source : (g : Bool) (h : ℕ) (b : table.Band) (y : ℕ) (v : ℕ → Plane) (x : ℕ) → v (fromComponent (source g l1 h b y)) (fromRow (source g l1 h b y)) x ≡ value false (source g l1 h b y) v x
+abbrev AsIs : (ℕ → Plane) → ℕ → Source → Type 0
+AsIs v x s = v (fromComponent s) (fromRow s) x ≡ value false s v x
+
+plain-source : (g : Bool) (h : ℕ) (b : table.Band) (y : ℕ) (v : ℕ → Plane) (x : ℕ) → AsIs v x (source g l1 h b y)
 unfolding source
 plain-source false h hl y v x = refl
-plain-source false h lh y v x = by (eqb (y + 1) h)
-  where
-    by : (t : Bool) → v (fromComponent (cond t (S 0 h) (S 1 (y + 1)))) (fromRow (cond t (S 0 h) (S 1 (y + 1)))) x ≡ value false (cond t (S 0 h) (S 1 (y + 1))) v x
-    by true = refl
-    by false = refl
-plain-source false h hh y v x = by (eqb (y + 1) h)
-  where
-    by : (t : Bool) → v (fromComponent (cond t (S 1 h) (S 2 (y + 1)))) (fromRow (cond t (S 1 h) (S 2 (y + 1)))) x ≡ value false (cond t (S 1 h) (S 2 (y + 1))) v x
-    by true = refl
-    by false = refl
+plain-source false h lh y v x = of-cond (AsIs v x) (eqb (y + 1) h) (S 0 h) (S 1 (y + 1)) (λ _. refl) (λ _. refl)
+plain-source false h hh y v x = of-cond (AsIs v x) (eqb (y + 1) h) (S 1 h) (S 2 (y + 1)) (λ _. refl) (λ _. refl)
 plain-source true h hl y v x = refl
-plain-source true h lh y v x = by (eqb y h)
-  where
-    by : (t : Bool) → v (fromComponent (cond t (S 0 (h + 1)) (S 1 (y + 1)))) (fromRow (cond t (S 0 (h + 1)) (S 1 (y + 1)))) x ≡ value false (cond t (S 0 (h + 1)) (S 1 (y + 1))) v x
-    by true = refl
-    by false = refl
-plain-source true h hh y v x = by (eqb y h)
-  where
-    by : (t : Bool) → v (fromComponent (cond t (S 1 (h + 1)) (S 2 (y + 1)))) (fromRow (cond t (S 1 (h + 1)) (S 2 (y + 1)))) x ≡ value false (cond t (S 1 (h + 1)) (S 2 (y + 1))) v x
-    by true = refl
-    by false = refl
+plain-source true h lh y v x = of-cond (AsIs v x) (eqb y h) (S 0 (h + 1)) (S 1 (y + 1)) (λ _. refl) (λ _. refl)
+plain-source true h hh y v x = of-cond (AsIs v x) (eqb y h) (S 1 (h + 1)) (S 2 (y + 1)) (λ _. refl) (λ _. refl)
 
 pub first-flat : (g : Bool) (w n : ℕ) (s : Sized g w n) (work after : List ℤ) → length work ≡ 256 * unit w n → after ≡ summed (w / 16) work (start g) (n - start g) → (r : code.Level) → Follows g w n l1 r → (i : Colour) → passed g r (highs g l1 (height g n l1)) after ≡ flat (height g n l2) (w / 8) (ll2 g n w i (coefsIn w n work))
 unfolding ll2
 first-flat g w n s work after z e r f i =
     passed-flat g w n s l1 r f after (ll1 g n w i (coefsIn w n work)) (bands g l1 (height g n l1) i (held w n work (detail l1))) (sums-row g w n s work after z e i) rowOf
-    ∙ (λ j. flat (after-1 g n (s .tall) j) (sym (columns-8 w (s .whole)) j) (step g n w l1 i (coefsIn w n work) (ll1 g n w i (coefsIn w n work))))
+    ∙ (λ j. flat (rows-after g n l1 (s .tall) j) (sym (columns-8 w (s .whole)) j) (step g n w l1 i (coefsIn w n work) (ll1 g n w i (coefsIn w n work))))
   where
     rowOf : (b : table.Band) (y : ℕ) → y < bandRows (height g n l1) (highs g l1 (height g n l1)) b → part after (sourceAt g w n l1 b y) (w / 16) ≡ line (w / 16) (bands g l1 (height g n l1) i (held w n work (detail l1)) b) y
     rowOf b y p =
@@ -166,7 +141,7 @@ first-flat g w n s work after z e r f i =
 pub second-flat : (g : Bool) (w n : ℕ) (s : Sized g w n) (work after : List ℤ) → length work ≡ 256 * unit w n → Edged g w n l2 false work after → (r : code.Level) → Follows g w n l2 r → (i : Colour) → passed g r (highs g l2 (height g n l2)) after ≡ flat (height g n l3) (w / 4) (step g n w l2 i (coefsIn w n work) (readAt work (64 * unit w n) (w / 8)))
 second-flat g w n s work after z e r f i =
     passed-flat g w n s l2 r f after (readAt work (64 * unit w n) (w / 8)) (bands g l2 (height g n l2) i (held w n work (detail l2))) rowOf (e .bands)
-    ∙ (λ j. flat (after-2 g n (s .tall) j) (twice j) (step g n w l2 i (coefsIn w n work) (readAt work (64 * unit w n) (w / 8))))
+    ∙ (λ j. flat (rows-after g n l2 (s .tall) j) (twice j) (step g n w l2 i (coefsIn w n work) (readAt work (64 * unit w n) (w / 8))))
   where
     twice : 2 * (w / 8) ≡ w / 4
     twice = omega (arith, s .whole)
@@ -210,29 +185,17 @@ heights true n t l3 = (omega arith, omega arith, (λ e. refl))
 -- an outcome lies in the work slice
 pub out-room : (g : Bool) (w n : ℕ) → Sized g w n → (l : Level) → outAt w n l + rowsAfter g n l * (2 * columns w (detail l)) ≤ 148 * unit w n
 out-room g w n s l1 =
-    let a : rowsAfter g n l1 ≤ 2 * n = omega (arith, after-1 g n (s .tall), low g) in
+    let a : rowsAfter g n l1 ≤ 2 * n = omega (arith, rows-after g n l1 (s .tall), after-most g n l1) in
     let m = mul-le-mul-right (2 * (w / 16)) a in
     omega (arith, m)
-  where
-    low : (g : Bool) → height g n l2 ≤ 2 * n
-    low false = omega arith
-    low true = omega arith
 out-room g w n s l2 =
-    let a : rowsAfter g n l2 ≤ 4 * n = omega (arith, after-2 g n (s .tall), low g) in
+    let a : rowsAfter g n l2 ≤ 4 * n = omega (arith, rows-after g n l2 (s .tall), after-most g n l2) in
     let m = mul-le-mul-right (2 * (2 * (w / 16))) a in
     rw (columns-8 w (s .whole)) (omega (arith, m))
-  where
-    low : (g : Bool) → height g n l3 ≤ 4 * n
-    low false = omega arith
-    low true = omega arith
 out-room g w n s l3 =
-    let a : rowsAfter g n l3 ≤ 8 * n = omega (arith, after-3 g n (s .tall), low g) in
+    let a : rowsAfter g n l3 ≤ 8 * n = omega (arith, rows-after g n l3 (s .tall), after-most g n l3) in
     let m = mul-le-mul-right (2 * (4 * (w / 16))) a in
     rw (columns-4 w (s .whole)) (omega (arith, m))
-  where
-    low : (g : Bool) → planeRows g n ≤ 8 * n
-    low false = omega arith
-    low true = omega arith
 
 pub level-asks :
     (g : Bool) (w n : ℕ) → Sized g w n → (l : Level) (r : code.Level) → Follows g w n l r → (m out ring size : ℕ) → m ≡ highs g l (height g n l) → out ≡ outAt w n l → ring ≡ 6 * columns w (detail l) → size ≡ 256 * unit w n
@@ -265,7 +228,7 @@ first-leaves g w n s work after last z e r f m k p =
     let q = sums-length g w n s work after z e in
     let o = out-room g w n s l1 in
     let c = first-flat g w n s work after z e r f in
-    let h : height g n l2 * (w / 8) ≡ rowsAfter g n l1 * (2 * (w / 16)) = (λ j. sym (after-1 g n (s .tall)) j * columns-8 w (s .whole) j) in (
+    let h : height g n l2 * (w / 8) ≡ rowsAfter g n l1 * (2 * (w / 16)) = (λ j. sym (rows-after g n l1 (s .tall)) j * columns-8 w (s .whole) j) in (
       (λ i. stands-put after last (passed g r (highs g l1 (height g n l1)) after) (64 * unit w n) (height g n l2) (w / 8) (ll2 g n w i (coefsIn w n work)) d (c i) (omega (arith, h, o, q, z))),
       (λ a m u v.
           put-between after last (passed g r (highs g l1 (height g n l1)) after) (64 * unit w n) d (omega (arith, ap length (c green) ∙ length-flat (height g n l2) (w / 8) (ll2 g n w green (coefsIn w n work)), h, o, q, z)) a m (omega arith) v
@@ -279,7 +242,7 @@ second-leaves g w n s work after last z e r f m k p =
     let o = out-room g w n s l2 in
     let c = second-flat g w n s work after z e r f in
     let t : w / 4 ≡ 2 * (w / 8) = omega (arith, s .whole) in
-    let h : height g n l3 * (w / 4) ≡ rowsAfter g n l2 * (2 * (w / 8)) = (λ j. sym (after-2 g n (s .tall)) j * t j) in (
+    let h : height g n l3 * (w / 4) ≡ rowsAfter g n l2 * (2 * (w / 8)) = (λ j. sym (rows-after g n l2 (s .tall)) j * t j) in (
       (λ i. stands-put after last (passed g r (highs g l2 (height g n l2)) after) (68 * unit w n) (height g n l3) (w / 4) (step g n w l2 i (coefsIn w n work) (readAt work (64 * unit w n) (w / 8))) d (c i) (omega (arith, h, o, q, z))),
       (λ a m u v.
           put-between after last (passed g r (highs g l2 (height g n l2)) after) (68 * unit w n) d (omega (arith, ap length (c green) ∙ length-flat (height g n l3) (w / 4) (step g n w l2 green (coefsIn w n work) (readAt work (64 * unit w n) (w / 8))), h, o, q, z)) a m (omega arith) (omega (arith, v))

@@ -9,10 +9,11 @@ use lib.ListN.{length}
 use Rattle.lists.specs.Lists.{part, putAt}
 use Rattle.lists.proofs.Tab.{tab-same}
 use Rattle.format.specs.Lifting.{SameOn}
-use Rattle.format.specs.Sizes.{Colour, Level, l2, l3, detail, planeRows}
+use Rattle.format.specs.Sizes.{Colour, l2, l3, detail, planeRows}
 use Rattle.format.specs.Table.{height, highs, Source, S, E, source, bandRows, mode, fromComponent, fromRow}
 use Rattle.format.specs.Table as table
 use Rattle.format.specs.Synthesis.{value, bands, step, ll2, ll3, outcome, flat}
+use Rattle.format.proofs.Exact.{rows-after}
 use Rattle.format.proofs.TableLaws.{source-in}
 use Rattle.passes.specs.declared.Level as code
 use Rattle.passes.specs.Held.{unit, held, readAt, Sized, line}
@@ -20,7 +21,7 @@ use Rattle.passes.specs.Level as rowwise
 use Rattle.passes.proofs.HeldLaws.{read-line}
 use Rattle.levels.specs.Levels.{coefsIn, sourceAt, Follows, Between, Edged, Stands, Ready}
 use Rattle.levels.proofs.Join.{rowsAfter, ll-room, passed-flat, step-same, stands-read}
-use Rattle.levels.proofs.Lows.{held-same, after-2, after-3, highs-3, stands-put, out-room}
+use Rattle.levels.proofs.Lows.{held-same, highs-3, stands-put, out-room}
 
 -- the work slice as it came, and after level 1, level 2 and E on level 3's rows
 module _ (g : Bool) (w n : ℕ) (s : Sized g w n) (odd : Bool) (i : Colour) (m : mode l3 i ≡ odd) (a b c d : List ℤ) (size : length c ≡ 256 * unit w n)
@@ -34,7 +35,7 @@ module _ (g : Bool) (w n : ℕ) (s : Sized g w n) (odd : Bool) (i : Colour) (m :
       ∙ step-same g w n s l2 i (coefsIn w n b) (coefsIn w n a) (readAt b (64 * unit w n) (w / 8)) (ll2 g n w i (coefsIn w n a))
       (stands-read b (64 * unit w n) (height g n l2) (w / 8) (ll2 g n w i (coefsIn w n a)) one)
       (held-same w n (s .whole) b a l2 (unit w n) (64 * unit w n) kept (omega arith) (omega arith))
-      y x (omega (arith, p, after-2 g n (s .tall))) (omega (arith, q, s .whole))
+      y x (omega (arith, p, rows-after g n l2 (s .tall))) (omega (arith, q, s .whole))
 
   ll-row : (y : ℕ) → y < height g n l3 → part d (68 * unit w n + y * (w / 4)) (w / 4) ≡ line (w / 4) (ll3 g n w i (coefsIn w n a)) y
   ll-row y p =
@@ -65,18 +66,18 @@ unfolding outcome
 top-flat g w n s i work after e r f =
     let t : 2 * (w / 4) ≡ w / 2 = omega (arith, s .whole) in
     passed-flat g w n s l3 r f after (ll3 g n w i (coefsIn w n work)) (bands g l3 (height g n l3) i (held w n work (detail l3))) (e .lls) (e .bands)
-    ∙ (λ j. flat (after-3 g n (s .tall) j) (t j) (step g n w l3 i (coefsIn w n work) (ll3 g n w i (coefsIn w n work))))
+    ∙ (λ j. flat (rows-after g n l3 (s .tall) j) (t j) (step g n w l3 i (coefsIn w n work) (ll3 g n w i (coefsIn w n work))))
 
 -- the plane that level 3 fills
 pub plane-size : (g : Bool) (w n : ℕ) → Sized g w n → (r : code.Level) → Follows g w n l3 r → planeRows g n * (w / 2) ≡ r .h * (4 * r .c)
 plane-size g w n s r f =
     let t : w / 2 ≡ 2 * (w / 4) = omega (arith, s .whole) in
-    let a : planeRows g n ≡ 2 * height g n l3 = omega (arith, after-3 g n (s .tall), highs-3 g n) in
+    let a : planeRows g n ≡ 2 * height g n l3 = omega (arith, rows-after g n l3 (s .tall), highs-3 g n) in
     rw (f .rows, f .cols) (rw (t, a) (omega arith))
 
 -- or a plane in the work slice
 pub top-stands : (g : Bool) (w n : ℕ) → Sized g w n → (i : Colour) (work after last : List ℤ) → length after ≡ 256 * unit w n → Ready g w n i work after → (r : code.Level) → Follows g w n l3 r → last ≡ putAt after (84 * unit w n) (rowwise.level r after) → Stands last (84 * unit w n) (planeRows g n) (w / 2) (outcome g n w i (coefsIn w n work))
 top-stands g w n s i work after last z e r f d =
     let t : w / 2 ≡ 2 * (w / 4) = omega (arith, s .whole) in
-    let h : planeRows g n * (w / 2) ≡ rowsAfter g n l3 * (2 * (w / 4)) = (λ j. sym (after-3 g n (s .tall)) j * t j) in
+    let h : planeRows g n * (w / 2) ≡ rowsAfter g n l3 * (2 * (w / 4)) = (λ j. sym (rows-after g n l3 (s .tall)) j * t j) in
     stands-put after last (rowwise.level r after) (84 * unit w n) (planeRows g n) (w / 2) (outcome g n w i (coefsIn w n work)) d (top-flat g w n s i work after e r f) (omega (arith, h, out-room g w n s l3, z))

@@ -5,7 +5,7 @@ use mathlib.Core.List.{List, [], _++_, append-assoc, append-nil}
 use mathlib.Core.Logic.{⊎-elim}
 use mathlib.Core.Bool.{cond}
 use Prim.Native.Nat.{ℕ, zero, suc, _+_, _-_, _*_, _/_, _^_, _≤_, _<_, min}
-use native.Mathlib.Nat.{sub-zero, suc-mul, zero-mul, add-assoc, add-zero, div-eq-of-lt, mul-le-mul-right}
+use native.Mathlib.Nat.{sub-zero, suc-mul, zero-mul, add-zero, div-eq-of-lt, mul-le-mul-right}
 use native.Mathlib.Numerals.{add-one}
 use native.Mathlib.Omega.{arith}
 use lib.IntN.{ℤ, pos}
@@ -16,7 +16,7 @@ use lib.Seq.{take-all, take-at}
 use Rattle.format.specs.Reader.{Reader}
 use Rattle.lists.specs.Lists.{rows}
 use Rattle.format.specs.Bits.{bitsAt}
-use Rattle.format.specs.Packets.{sum, control, kind, recordBit, recordLength, selector, payloadAt}
+use Rattle.format.specs.Packets.{sum, kind, recordBit, recordLength, selector, payloadAt}
 use Rattle.format.specs.Coefficients.{Part, zeros, rowOf, rowsOf, codedRecord, recordOf}
 use Rattle.format.proofs.BitLaws.{le-or-lt, bits-lt}
 use Rattle.records.specs.Record.{selectorOf, selectorsOf}
@@ -130,14 +130,6 @@ module _ (p : List ℕ) where
   pub payload-le : (i : ℕ) → payloadAt p i ≤ 2 ^ 21 + 65536 * i
   unfolding payloadAt
   payload-le i = omega (arith, sum-le (recordLength p) i length-lt, bits-lt p 0 16)
-
-  pub payload-first : payloadAt p 0 ≡ (control p + 1) * 16
-  unfolding payloadAt sum
-  payload-first = add-zero ((control p + 1) * 16)
-
-  pub payload-next : (i : ℕ) → payloadAt p (i + 1) ≡ payloadAt p i + recordLength p i
-  unfolding payloadAt sum
-  payload-next i = ap (payloadAt p) (add-one i) ∙ sym (add-assoc ((control p + 1) * 16) (sum (recordLength p) i) (recordLength p i))
 
 -- ---- the ways to a record
 module _ (p : List ℕ) (m cols i : ℕ) where

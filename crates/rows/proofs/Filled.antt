@@ -1,5 +1,5 @@
 -- A slice that is filled from the front. Assumes nothing.
-use mathlib.Core.Path.{_≡_, refl, sym, ap, _∙_}
+use mathlib.Core.Path.{_≡_, sym, ap, _∙_}
 use mathlib.Core.Logic.{⊎-elim}
 use mathlib.Core.List.{List, [], _∷_, _++_, append-assoc, append-nil}
 use Prim.Native.Nat.{ℕ, zero, suc, _+_, _≤_, _<_}
@@ -8,7 +8,7 @@ use native.Mathlib.Numerals.{add-one}
 use native.Mathlib.Nat.{add-zero}
 use lib.IntN.{ℤ, pos}
 use lib.ListN.{length, set, getD, replicate, length-set, length-replicate, getD-replicate, List·getD-eq-default}
-use lib.Seq.{take-all, take-length, take-append-le, take-suc-set, set-out}
+use lib.Seq.{take-all, take-length, take-append-le, take-suc-set, set-out, set-getD, getD-set-other}
 use Rattle.format.proofs.BitLaws.{le-or-lt}
 use Rattle.rows.specs.Course.{filled, Clean}
 
@@ -43,22 +43,9 @@ filled-four d i a b c e l =
     ∙ ap (λ (k : ℕ). filled d2 k (c ∷ e ∷ l)) two ∙ filled-set d1 (i + 1) b (c ∷ e ∷ l)
     ∙ filled-set d i a (b ∷ c ∷ e ∷ l)
 
--- an element that is stored where it stands
-pub set-same : (d : List ℤ) (i : ℕ) → set d i (getD d i (pos 0)) ≡ d
-set-same [] i = refl
-set-same (x ∷ d) zero = refl
-set-same (x ∷ d) (suc i) = ap (λ (l : List ℤ). x ∷ l) (set-same d i)
-
--- an element past a store
-getD-past : (d : List ℤ) (i j : ℕ) (v : ℤ) → i < j → getD (set d i v) j (pos 0) ≡ getD d j (pos 0)
-getD-past [] i j v h = refl
-getD-past (x ∷ d) i zero v h = absurd (omega arith)
-getD-past (x ∷ d) zero (suc j) v h = refl
-getD-past (x ∷ d) (suc i) (suc j) v h = getD-past d i j v (omega arith)
-
 -- one element more
 filled-next : (d : List ℤ) (i : ℕ) (l : List ℤ) → filled d (i + 1) l ≡ filled d i (getD d i (pos 0) ∷ l)
-filled-next d i l = ap (λ (e : List ℤ). filled e (i + 1) l) (sym (set-same d i)) ∙ filled-set d i (getD d i (pos 0)) l
+filled-next d i l = ap (λ (e : List ℤ). filled e (i + 1) l) (sym (set-getD d i (pos 0))) ∙ filled-set d i (getD d i (pos 0)) l
 
 -- zeros that are there already
 pub clean-filled : (d : List ℤ) (i : ℕ) → Clean d i → (k : ℕ) (l : List ℤ) → filled d (i + k) l ≡ filled d i (replicate k (pos 0) ++ l)
@@ -74,7 +61,8 @@ clean-four d i a b c e clean j h =
     let d1 = set d i a in
     let d2 = set d1 (i + 1) b in
     let d3 = set d2 (i + 2) c in
-    getD-past d3 (i + 3) j e (omega arith) ∙ getD-past d2 (i + 2) j c (omega arith) ∙ getD-past d1 (i + 1) j b (omega arith) ∙ getD-past d i j a (omega arith) ∙ clean j (omega arith)
+    getD-set-other d3 (i + 3) j e (pos 0) (λ q. omega arith) ∙ getD-set-other d2 (i + 2) j c (pos 0) (λ q. omega arith)
+    ∙ getD-set-other d1 (i + 1) j b (pos 0) (λ q. omega arith) ∙ getD-set-other d i j a (pos 0) (λ q. omega arith) ∙ clean j (omega arith)
 
 -- a slice that is cleared whole
 pub clean-all : (d₀ d : List ℤ) (n : ℕ) → n ≡ length d₀ → length d ≡ length d₀ → filled d (0 + n) [] ≡ filled d₀ 0 (replicate n (pos 0) ++ []) → Clean d 0

@@ -1,18 +1,15 @@
 -- Laws of the numbers of a row. Assumes nothing.
 use borrow.Author.Tests.{eq-eqb, ne-eqb, lt-ltb, le-ltb}
-use mathlib.Core.Path.{_≡_, refl, sym}
-use mathlib.Core.Bool.{Bool, true, false, cond, _||_, true≢false}
+use mathlib.Core.Path.{_≡_}
+use mathlib.Core.Bool.{cond, or-true}
 use mathlib.Core.Logic.{⊎-elim}
 use lib.Dec.{ltb}
 use Rattle.format.proofs.BitLaws.{le-or-lt}
-use Prim.Native.Nat.{ℕ, zero, suc, _+_, _-_, _*_, _/_, _^_, _%_, _<_, _≤_}
+use Prim.Native.Nat.{ℕ, _+_, _-_, _*_, _/_, _^_, _%_, _<_, _≤_}
 use native.Mathlib.Omega.{arith}
 use native.Mathlib.Nat.{mul-le-mul-left, mul-one, mul-zero}
-use lib.IntN.{ℤ, pos, negsuc, negℤ}
-use lib.Signed.{ltZ}
+use lib.IntN.{pos}
 use lib.Pow.{shl-exact, pow-pos}
-use mir.Syntax.{w32}
-use mir.Val.{SFits}
 use Rattle.wrap32.specs.Cut.{wrap}
 use Rattle.format.specs.Coefficients.{valueOf}
 
@@ -25,10 +22,6 @@ pub value-shl : (u k : ℕ) → u < 2 ^ 32 → k < 16 → (2 * u + 1) * 2 ^ k % 
 value-shl u k small h = shl-exact 33 k 64 (omega arith) (omega arith)
 
 -- the ways to a value
-or-true : (b : Bool) → (b || true) ≡ true
-or-true true = refl
-or-true false = refl
-
 pub value-plain : (u sel : ℕ) → sel ≡ 0 → valueOf u sel ≡ pos u
 unfolding valueOf
 value-plain u sel e = simp (eq-eqb sel 0 e)
@@ -40,12 +33,6 @@ value-none u sel e = simp (eq-eqb u 0 e, or-true, e)
 pub value-some : (u sel : ℕ) → (sel ≡ 0 → ⊥) → (u ≡ 0 → ⊥) → valueOf u sel ≡ wrap (pos ((2 * u + 1) * 2 ^ (sel - 1) - u % 2))
 unfolding valueOf
 value-some u sel m n = simp (ne-eqb sel 0 m, ne-eqb u 0 n)
-
--- what is above 0 can be negated
-pub neg-fits : (z : ℤ) → ltZ (pos 0) z ≡ true → SFits w32 z → SFits w32 (negℤ z)
-neg-fits (pos zero) e f = record { sfits = omega arith }
-neg-fits (pos (suc n)) e f = omega (arith, f .sfits)
-neg-fits (negsuc n) e f = absurd (true≢false (sym e))
 
 -- a product by the first bit of a word
 pub bit-share : (m word : ℕ) → word < 2 ^ 64 → m * (word / 2 ^ 63) ≡ cond (ltb word (2 ^ 63)) 0 m

@@ -13,7 +13,7 @@ use mir.Syntax.{w32}
 use mir.Val.{SFits, toZ, ofZ}
 use mir.ValLaws.{toZ-pos}
 use Rattle.wrap32.specs.Cut.{low, cut, wrap, signOf}
-use Rattle.wrap32.proofs.Laws.{cut-id, cut-add-l, low-neg32, odd-bit}
+use Rattle.wrap32.proofs.Laws.{of-cond, cut-id, cut-add-l, low-neg32, less-some, odd-bit}
 use Rattle.rows.specs.Word.{scaledOf, signedOf}
 use Rattle.rows.specs.Stretch.{stretchOf}
 use Rattle.rows.proofs.WordLaws.{short, scaled-zero, scaled-none, scaled-some, signed-none, signed-fits}
@@ -26,16 +26,12 @@ pub stretch-some : (sel : ℕ) (x : ℤ) → 0 < sel → stretchOf sel x ≡ wra
 unfolding stretchOf
 stretch-some sel x h = simp (ne-eqb sel 0 (λ z. omega arith))
 
-either : {A : Type 0} (b : Bool) (x : A) → cond b x x ≡ x
-either true x = refl
-either false x = refl
-
 -- 0 stays
 pub stretch-zero : (sel : ℕ) → stretchOf sel (pos 0) ≡ pos 0
 unfolding stretchOf
 stretch-zero sel =
     let none : 0 * 2 ^ sel + 0 * (2 ^ (sel - 1) - 0) ≡ 0 = omega arith in
-    ap (λ (n : ℕ). cond (eqb sel 0) (pos 0) (wrap (pos n))) none ∙ ap (cond (eqb sel 0) (pos 0)) (cut-id w32 (pos 0) (record { sfits = omega arith })) ∙ either (eqb sel 0) (pos 0)
+    of-cond (λ (z : ℤ). z ≡ pos 0) (eqb sel 0) _ _ (λ _. refl) (λ _. ap (λ (n : ℕ). wrap (pos n)) none ∙ cut-id w32 (pos 0) (record { sfits = omega arith }))
 
 -- the magnitude under the selector
 magnitude : (n sel : ℕ) → 0 < sel → suc n * 2 ^ sel + 1 * (2 ^ (sel - 1) - suc n % 2) ≡ scaledOf (suc n) sel
@@ -87,17 +83,13 @@ unfolding cut
 shifted-left x k f = ap (toZ w32) (sym (low-scale x (2 ^ k) f))
 
 -- half a step, less 1 where the coefficient is odd
-difference : (a b : ℕ) → b ≤ a → pos a -ℤ pos b ≡ pos (a - b)
-difference a zero h = ap pos (omega arith)
-difference a (suc b) h = simp (le-ltb a (suc b) h)
-
 pub half-less : (sel o : ℕ) → sel < 16 → o < 2 → (toZ w32 (1 * 2 ^ (sel - 1) % 2 ^ 32) -ℤ pos o ≡ pos (2 ^ (sel - 1) - o)) × SFits w32 (pos (2 ^ (sel - 1) - o))
 half-less sel o h k =
     let less : sel - 1 ≤ 15 = omega arith in
     let most = pow-mono {j = 15} less in
     let all : 1 * 2 ^ (sel - 1) % 2 ^ 32 ≡ 2 ^ (sel - 1) = omega arith in (
       ap (λ (n : ℕ). toZ w32 n -ℤ pos o) all ∙ ap (λ (z : ℤ). z -ℤ pos o) (toZ-pos w32 (2 ^ (sel - 1)) (omega arith))
-          ∙ difference (2 ^ (sel - 1)) o (omega (arith, pow-pos (sel - 1))),
+          ∙ less-some (2 ^ (sel - 1)) o (omega (arith, pow-pos (sel - 1))),
       record { sfits = omega arith },
     )
 

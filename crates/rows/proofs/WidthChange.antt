@@ -1,6 +1,6 @@
 -- Laws of a width update that is reckoned below 0 too. Assumes nothing.
 use borrow.Author.Tests.{eq-eqb, ne-eqb, lt-ltb, le-ltb, le-leb, lt-leb}
-use mathlib.Core.Path.{_≡_, ap}
+use mathlib.Core.Path.{_≡_}
 use mathlib.Core.Bool.{Bool, true, false, cond, true≢false}
 use mathlib.Core.Logic.{⊎-elim}
 use Prim.Native.Nat.{ℕ, zero, suc, _+_, _-_, _*_, _/_, _%_, _^_, _<_, _≤_, min}
@@ -11,6 +11,7 @@ use lib.IntN.{ℤ, pos, negsuc, negℤ, natAbs, _+ℤ_, _-ℤ_}
 use lib.Signed.{leZ, nonNeg, mag}
 use mir.Syntax.{w64}
 use mir.Val.{Fits, SFits}
+use Rattle.wrap32.proofs.Laws.{less-some, less-none}
 use Rattle.format.proofs.BitLaws.{le-or-lt}
 use Rattle.rows.specs.declared.Change.{Change}
 use Rattle.rows.specs.Word.{changeOf}
@@ -26,15 +27,7 @@ pub above-cast : (y : ℤ) → leZ y (pos 0) ≡ false → SFits w64 y → T (no
 above-cast (pos n) e f = (tt, record { fits = omega (arith, f .sfits) })
 above-cast (negsuc n) e f = absurd (true≢false e)
 
--- a difference of two numbers, by which is the greater
-less-some : (w d : ℕ) → d ≤ w → pos w -ℤ pos d ≡ pos (w - d)
-less-some w zero h = ap pos (omega arith)
-less-some w (suc n) h = simp (le-ltb w (suc n) h)
-
-less-none : (w d : ℕ) → w < d → pos w -ℤ pos d ≡ negsuc (d - suc w)
-less-none w zero h = absurd (omega arith)
-less-none w (suc n) h = simp (lt-ltb w (suc n) h)
-
+-- a number less one that is no smaller is not above 0
 less-low : (w d : ℕ) → w ≤ d → leZ (pos w -ℤ pos d) (pos 0) ≡ true
 less-low w d h =
     ⊎-elim (λ (le : d ≤ w). simp (less-some w d le) (le-leb (w - d) 0 (omega arith))) (λ (lt : w < d). simp (less-none w d lt)) (le-or-lt d w)

@@ -7,10 +7,10 @@ use native.Mathlib.Omega.{arith}
 use native.Mathlib.Numerals.{add-one}
 use lib.IntN.{ℤ, pos}
 use lib.ListN.{length, set, getD}
+use lib.Seq.{set-getD}
 use Rattle.format.proofs.BitLaws.{le-or-lt}
 use Rattle.rows.specs.Course.{Clean}
 use Rattle.rows.specs.Stretch.{within}
-use Rattle.rows.proofs.Filled.{set-same}
 
 pub within-length : (f : ℤ → ℤ) (d : List ℤ) (a b : ℕ) → length (within f d a b) ≡ length d
 unfolding within
@@ -92,7 +92,7 @@ within-end f (x ∷ d) (suc a) (suc i) (suc b) n k h = ap (λ (l : List ℤ). x 
 pub within-next : (f : ℤ → ℤ) (d : List ℤ) (a i : ℕ) → a ≤ i → set (within f d a i) i (f (getD (within f d a i) i (pos 0))) ≡ within f d a (i + 1)
 within-next f d a i h =
     ap (λ (x : ℤ). set (within f d a i) i (f x)) (within-past f d a i i (omega arith)) ∙ sym (within-set f d a i (getD d i (pos 0)) h)
-    ∙ ap (λ (l : List ℤ). within f l a (i + 1)) (set-same d i)
+    ∙ ap (λ (l : List ℤ). within f l a (i + 1)) (set-getD d i (pos 0))
 
 -- where a loop has come that goes up to b, as far as the slice goes
 pub within-done : (f : ℤ → ℤ) (d : List ℤ) (a i b : ℕ) → a ≤ i → min b (length d) ≤ i → i ≤ a + (min b (length d) - a) → within f d a i ≡ within f d a b

@@ -3,8 +3,8 @@ use borrow.Author.Tests.{eq-eqb, ne-eqb, le-leb, lt-leb, lt-ltb, le-ltb}
 use mathlib.Core.Path.{_≡_, refl, sym, ap, _∙_}
 use mathlib.Core.Logic.{⊎-elim}
 use mathlib.Core.List.{List, [], _∷_}
-use mathlib.Core.Bool.{Bool, true, false, cond}
-use Prim.Native.Nat.{ℕ, zero, suc, _+_, _-_, _*_, _/_, _%_, _^_, _≤_, _<_, min}
+use mathlib.Core.Bool.{cond}
+use Prim.Native.Nat.{ℕ, _+_, _-_, _*_, _/_, _%_, _^_, _≤_, _<_, min}
 use native.Mathlib.Nat.{zero-add, add-zero, sub-zero, lt-of-lt-of-le}
 use native.Mathlib.Omega.{arith}
 use lib.Count.{leadingZeros}
@@ -13,7 +13,7 @@ use lib.Pow.{shr-lt, shl-lt, pow-mono}
 use lib.IntN.{ℤ, pos, negℤ}
 use mir.Syntax.{w32}
 use mir.Val.{SFits}
-use Rattle.wrap32.proofs.Laws.{cut-id}
+use Rattle.wrap32.proofs.Laws.{cut-id, neg-fits}
 use Rattle.format.specs.Bits.{bitsAt}
 use Rattle.format.specs.Reader.{Reader, updateOf, skipped}
 use Rattle.format.proofs.BitLaws.{le-or-lt, bits-lt, bits-low, prefix, middle-of}
@@ -247,14 +247,6 @@ module _ (s : List ℕ) (r : Reader) (sel w word g n w′ : ℕ) (fits : word < 
       let q : Four = record { a = bitsAt s p w; b = bitsAt s (p + w) w; c = bitsAt s (p + 2 * w) w; d = bitsAt s (p + 3 * w) w; reader = skipped r (4 * w) } in
       let sq = signs-quad s r word sel n below holds short enough q (bits-short p) (bits-short (p + w)) (bits-short (p + 2 * w)) (bits-short (p + 3 * w)) in
       simp (four-within s r w (omega arith), next, values-bits s p word w holds most, sq)
-
-pub cond-le : (t : Bool) (a b k : ℕ) → a ≤ k → b ≤ k → cond t a b ≤ k
-cond-le true a b k p q = p
-cond-le false a b k p q = q
-
-pub neg-fits : (m : ℕ) → m < 2 ^ 31 → SFits w32 (negℤ (pos m))
-neg-fits zero h = record { sfits = omega arith }
-neg-fits (suc m) h = record { sfits = omega arith }
 
 pub signed-fits : (m bit : ℕ) → m < 2 ^ 31 → SFits w32 (signedOf m bit)
 unfolding signedOf

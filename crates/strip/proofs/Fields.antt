@@ -1,13 +1,14 @@
 -- Laws of a tile's fields by ordinal, and of how many tiles there are. Assumes nothing.
-use mathlib.Core.Path.{_≡_, refl, sym, ap, _∙_}
+use mathlib.Core.Path.{_≡_, refl, ap}
 use mathlib.Core.List.{List, [], _∷_}
 use mathlib.Core.Option.{Option, none, some}
 use mathlib.Core.Bool.{Bool, true, false, cond, _||_}
 use mathlib.Core.Logic.{⊎-elim}
-use Prim.Native.Nat.{ℕ, zero, suc, _+_, _≤_, _<_}
+use Prim.Native.Nat.{ℕ, zero, suc, _≤_, _<_}
 use native.Mathlib.Omega.{arith}
 use lib.Dec.{ltb, eqb}
 use lib.ListN.{length, getD, replicate}
+use Rattle.wrap32.proofs.Laws.{of-cond}
 use Rattle.format.proofs.BitLaws.{le-or-lt}
 use Rattle.format.specs.Bits.{little32}
 use Rattle.format.specs.Strip.{Tile, andTile, entryTile, entryTiles, tableOr, hasTable, listed, alone, tilesOf}
@@ -61,10 +62,6 @@ one-listed : (o : Option Tile) → length (listed o) ≤ 16
 one-listed (some t) = omega arith
 one-listed none = omega arith
 
-either-most : (b : Bool) (l : List Tile) → length l ≤ 16 → length (cond b [] l) ≤ 16
-either-most true l h = omega arith
-either-most false l h = h
-
 module _ (strip : List ℕ) (w h : ℕ) where
   entries-most : (a n : ℕ) → length (tableOr (entryTiles strip w h a n) []) ≤ n
   unfolding entryTiles
@@ -81,4 +78,6 @@ module _ (strip : List ℕ) (w h : ℕ) where
   -- a strip has at most 16 tiles
   pub most : length (tilesOf strip w h) ≤ 16
   unfolding tilesOf
-  most = either-most (eqb w 0 || eqb h 0 || ltb (length strip) 640) _ (table-most (little32 strip 0) (listed (alone strip w h)) (one-listed (alone strip w h)))
+  most =
+      of-cond (λ (l : List Tile). length l ≤ 16) (eqb w 0 || eqb h 0 || ltb (length strip) 640) _ _ (λ _. omega arith)
+      (λ _. table-most (little32 strip 0) (listed (alone strip w h)) (one-listed (alone strip w h)))

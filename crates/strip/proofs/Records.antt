@@ -10,13 +10,13 @@ use Prim.Native.Nat.{ℕ, zero, suc, _+_, _≤_, _<_}
 use native.Mathlib.Nat.{add-zero, zero-add}
 use native.Mathlib.Omega.{arith}
 use lib.ListN.{length, set, length-append}
+use Rattle.wrap32.proofs.Laws.{of-cond}
 use Rattle.format.proofs.BitLaws.{le-or-lt}
 use Rattle.format.specs.Bits.{little32}
 use Rattle.format.specs.Strip.{Tile, andTile, entryTile, entryTiles, tableOr, hasTable, listed, alone, tilesOf}
 use Rattle.strip.specs.declared.TileStream.{TileStream}
 use Rattle.strip.specs.declared.LocatedTile.{LocatedTile}
 use Rattle.strip.specs.declared.LocatedTile.the-variants as answer
-use Rattle.strip.specs.declared.Located.{Located}
 use Rattle.strip.specs.Answers.{zeroStream, streamOf, answerOf, answerNumber, records, located, locatedOf, tableTiles}
 
 -- one more tile at the end
@@ -113,10 +113,6 @@ failed : (o : Option Tile) → answerOf o ≡ answer.Nothing → o ≡ none
 failed (some t) e = absurd (omega (arith, ap answerNumber e))
 failed none e = refl
 
-either : (b : Bool) → tableOr (cond b none none) [] ≡ []
-either true = refl
-either false = refl
-
 module _ (strip : List ℕ) (w h : ℕ) where
   abbrev pub Gathered : List TileStream → ℕ → Type 0
   Gathered tiles i = Held (entryTiles strip w h 0 i) tiles i
@@ -141,7 +137,8 @@ module _ (strip : List ℕ) (w h : ℕ) where
       → tableTiles strip w h ≡ []
   unfolding tableTiles
   gathered-fail i n bad less same =
-      rw (← same, entries-fail strip w h i n (failed (entryTile strip w h i) bad) less) (either (hasTable n))
+      rw (← same, entries-fail strip w h i n (failed (entryTile strip w h i) bad) less)
+      (of-cond (λ (r : Option (List Tile)). tableOr r [] ≡ []) (hasTable n) none none (λ _. refl) (λ _. refl))
 
 -- ---- the whole strip
 

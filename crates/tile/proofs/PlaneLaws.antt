@@ -1,6 +1,6 @@
 -- From what each step leaves to the planes of the stream. Assumes nothing.
 use mathlib.Core.Path.{_≡_, refl, sym, ap, _∙_}
-use mathlib.Core.Bool.{Bool, true, false, not}
+use mathlib.Core.Bool.{Bool, true, not}
 use mathlib.Core.List.{List, _++_}
 use Prim.Native.Nat.{ℕ, zero, suc, _+_, _-_, _*_, _/_, _%_, _≤_, _<_}
 use native.Mathlib.Nat.{mul-le-mul, mul-le-mul-left, mul-le-mul-right, div-le-self}
@@ -9,18 +9,18 @@ use lib.Dec.{eqb}
 use lib.IntN.{ℤ, pos}
 use lib.ListN.{length, getD, take, drop, length-replicate}
 use lib.Seq.{length-take-le}
-use Rattle.lists.specs.Lists.{part, putAt}
+use Rattle.lists.specs.Lists.{putAt}
 use Rattle.lists.proofs.Tab.{getD-part}
 use Rattle.lists.proofs.Put.{getD-put-above}
-use Rattle.format.specs.Sizes.{Colour, green, red, blue, l3, final, stripes, guarded, planeRows, planeRowsOf, planeColumns, workLength}
+use Rattle.format.specs.Sizes.{Colour, green, red, l3, final, stripes, guarded, planeRows, planeRowsOf, planeColumns, workLength}
 use Rattle.format.specs.Strip.{width, codedHeight}
 use Rattle.format.specs.Packets.{packetOf, kind}
 use Rattle.format.specs.Coefficients.{zeros, packetValues, coefs}
 use Rattle.format.specs.Lifting.{Plane, SameOn}
 use Rattle.format.specs.Table.{mode, chosen}
-use Rattle.format.specs.Synthesis.{outcome, bothGreens, flat, planes}
+use Rattle.format.specs.Synthesis.{outcome, bothGreens, flat}
 use Rattle.format.proofs.Accepted.{Good, Accepted}
-use Rattle.format.proofs.Exact.{Tall}
+use Rattle.format.proofs.Exact.{planes-least}
 use Rattle.format.proofs.Lengths.{length-packet}
 use Rattle.format.proofs.PlaceLaws.{read-flat}
 use Rattle.format.proofs.Theorems.{length-planes}
@@ -35,11 +35,7 @@ use Rattle.tile.proofs.GoodLaws.{size, kinds}
 
 -- three rows of lo and hi at level 3 fit in green's plane
 pub ring-room : (g : Bool) (w n : ℕ) → Sized g w n → 6 * (w / 4) ≤ planeRows g n * w
-ring-room g w n s = let m : 8 * w ≤ planeRows g n * w = mul-le-mul-right w (some g (s .tall)) in omega arith
-  where
-    some : (g : Bool) → Tall g n → 8 ≤ planeRows g n
-    some false t = omega arith
-    some true t = omega arith
+ring-room g w n s = let m : 8 * w ≤ planeRows g n * w = mul-le-mul-right w (planes-least g n (s .tall)) in omega arith
 
 module _ (s : List ℕ) (good : Good s) (w n : ℕ) (g : Bool) (m : Measured s w n g) where
   -- the sizes that synthesis asks

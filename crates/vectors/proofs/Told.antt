@@ -1,6 +1,6 @@
 -- What the loops that compare numbers know. Assumes nothing.
-use mathlib.Core.Path.{_≡_, refl, sym, ap, _∙_}
-use mathlib.Core.Bool.{Bool, true, false}
+use mathlib.Core.Path.{_≡_, refl, ap, _∙_}
+use mathlib.Core.Bool.{true, false, false≢true}
 use mathlib.Core.List.{List}
 use mathlib.Core.Logic.{⊎-elim}
 use Prim.Native.Nat.{ℕ, _+_, _<_, _≤_}
@@ -8,9 +8,7 @@ use native.Mathlib.Nat.{eq-or-lt-of-le}
 use native.Mathlib.Omega.{arith}
 use lib.IntN.{ℤ, pos}
 use lib.ListN.{length, getD}
-use Rattle.lists.specs.Lists.{tab}
 use Rattle.lists.proofs.Tab.{tab-of, tab-same, getD-tab}
-use Rattle.format.proofs.TurnLaws.{apart}
 use Rattle.vectors.specs.Numbers.{Tells}
 
 -- the numbers before i are f's
@@ -28,4 +26,4 @@ module _ (l : List ℤ) (f : ℕ → ℤ) where
   until-all i u h = (λ e. tab-of (pos 0) l ∙ tab-same (length l) (λ k. getD l k (pos 0)) f (λ k b. u k (omega arith)), λ e. refl)
 
   pub until-not : (i : ℕ) → i < length l → (getD l i (pos 0) ≡ f i → ⊥) → Tells false l f
-  until-not i h n = (λ e. absurd (apart (sym e)), λ e. absurd (n (ap (λ (t : List ℤ). getD t i (pos 0)) e ∙ getD-tab (length l) f i (pos 0) h)))
+  until-not i h n = (λ e. absurd (false≢true e), λ e. absurd (n (ap (λ (t : List ℤ). getD t i (pos 0)) e ∙ getD-tab (length l) f i (pos 0) h)))

@@ -3,14 +3,14 @@ use borrow.Author.Needs.{needs}
 use native.Mathlib.Omega.{arith}
 use mathlib.Core.Path.{_≡_, refl}
 use mathlib.Core.Bool.{cond}
-use Prim.Native.Nat.{_+_, _*_, _%_, _^_, _≤_}
+use Prim.Native.Nat.{ℕ, _+_, _*_, _%_, _^_, _≤_}
 use lib.IntN.{pos}
 use lib.Signed.{leZ}
 use lib.Count.{leadingZeros, leading-le}
 use mir.Syntax.{w64}
 use mir.Val.{SFits}
 use mir.Facts.{toZ-ofZ}
-use Rattle.rows.proofs.WordLaws.{cond-le}
+use Rattle.wrap32.proofs.Laws.{of-cond}
 use Rattle.rows.proofs.WidthChange.{change-moved}
 use Rattle.rows.proofs.changed.Statement.{statement}
 use Rattle.rows.proofs.changed.Tie as tie
@@ -31,7 +31,7 @@ used c =
     let t = c .before .before .before in
     let a = t .before .before .args in
     let most : t .pick .result ≤ 66 = rw (taken t)
-    (cond-le (leZ (t .before .moved .result) (pos 0)) (a .width) (leadingZeros 64 (a .word * 2 ^ 2 % 2 ^ 64) + 1 + 1) 66 (omega arith) (omega (arith, few (t .before .before)))) in
+    (of-cond (λ (k : ℕ). k ≤ 66) (leZ (t .before .moved .result) (pos 0)) (a .width) _ (λ _. omega arith) (λ _. omega (arith, few (t .before .before)))) in
     omega (arith, most, c .share .ensures .1)
 
 returns : tie.Need-returns

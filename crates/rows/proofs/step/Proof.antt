@@ -1,14 +1,14 @@
 -- `step` meets its contract. Assumes nothing.
 use borrow.Author.Needs.{needs}
 use native.Mathlib.Omega.{arith}
-use Prim.Native.Nat.{_≤_}
-use Rattle.rows.proofs.WordLaws.{cond-le}
+use Prim.Native.Nat.{ℕ, _≤_}
+use Rattle.wrap32.proofs.Laws.{of-cond}
 use Rattle.rows.proofs.step.Statement.{statement}
 use Rattle.rows.proofs.step.Tie as tie
 
 -- the bits of the update
 taken : (c : tie.After-pick) → c .pick .result ≤ 67
-taken c = rw (c .pick .ensures) (cond-le (c .before .before .args .last) 0 (c .before .changed .result .used) 67 (omega arith) (c .before .changed .ensures .1))
+taken c = rw (c .pick .ensures) (of-cond (λ (k : ℕ). k ≤ 67) (c .before .before .args .last) 0 (c .before .changed .result .used) (λ _. omega arith) (λ _. c .before .changed .ensures .1))
 
 add-t7 : tie.Need-add-t7
 add-t7 c = omega (arith, taken c)

@@ -7,8 +7,8 @@ use lib.IntN.{ℤ, pos, negℤ, _-ℤ_, +ℤ-idl}
 use mir.Syntax.{w32}
 use mir.Val.{toZ, ofZ}
 use mir.ValLaws.{toZ-ofZ, toZ-pos}
+use Rattle.wrap32.proofs.Laws.{neg-fits}
 use Rattle.rows.specs.Word.{signedOf}
-use Rattle.rows.proofs.WordLaws.{neg-fits}
 use Rattle.rows.proofs.with_bit.Statement.{statement}
 use Rattle.rows.proofs.with_bit.Tie as tie
 

@@ -5,7 +5,7 @@ use lib.IntN.{ℤ, pos, negℤ, _-ℤ_, +ℤ-idl}
 use mir.Syntax.{w32}
 use mir.Val.{toZ, ofZ, SFits}
 use mir.ValLaws.{toZ-ofZ}
-use Rattle.rows.proofs.Numbers.{neg-fits}
+use Rattle.wrap32.proofs.Laws.{turned-fits}
 use Rattle.rows.proofs.with_sign.Statement.{statement}
 use Rattle.rows.proofs.with_sign.Tie as tie
 
@@ -13,7 +13,7 @@ difference : (c : tie.Start) → pos 0 -ℤ toZ w32 (ofZ w32 (c .args .z)) ≡ n
 difference c = ap (λ (z : ℤ). pos 0 -ℤ z) (toZ-ofZ w32 (c .args .z) (c .fits .z)) ∙ +ℤ-idl (negℤ (c .args .z))
 
 fits : (c : tie.Start) → SFits w32 (negℤ (c .args .z))
-fits c = neg-fits (c .args .z) (c .pre) (c .fits .z)
+fits c = turned-fits (c .args .z) (c .fits .z) (c .pre)
 
 returns : tie.Need-returns
 returns c = simp (eq-eqb _ _ (c .if1 .taken), toZ-ofZ w32 (c .before .args .z) (c .before .fits .z))
