@@ -13,8 +13,8 @@ use Rattle.format.specs.Bits.{bitsAt, bitAt}
 use Rattle.format.specs.Reader.{Reader, Taken, skipped, findOf, runOf, unaryOf, atMost, bitLength}
 use Rattle.format.specs.Coefficients.{widthAfter, zerosOf}
 use Rattle.format.proofs.BitLaws.{le-or-lt, bits-add, prefix-of, middle-of, lead-some, lead-one}
-use Rattle.bits.proofs.Fast.{read-within, unary-within, find-within, find-nothing}
-use Rattle.bits.proofs.Run.{exponent-lt, power-below, run-one, run-none, run-part}
+use Rattle.format.proofs.WordReads.{read-within, unary-within, find-within, find-nothing}
+use Rattle.format.proofs.RunLaws.{exponent-lt, power-below, run-one, run-none, run-part}
 
 -- a number below 2^31 has at most 31 bits
 pub length-le : (x : ℕ) → x < 2 ^ 31 → bitLength x ≤ 31

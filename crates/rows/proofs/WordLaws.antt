@@ -17,8 +17,8 @@ use Rattle.wrap32.proofs.Laws.{cut-id, neg-fits}
 use Rattle.format.specs.Bits.{bitsAt}
 use Rattle.format.specs.Reader.{Reader, updateOf, skipped}
 use Rattle.format.proofs.BitLaws.{le-or-lt, bits-lt, bits-low, prefix, middle-of}
-use Rattle.bits.proofs.Reads4.{four-within}
-use Rattle.bits.proofs.Fast.{read-within, word-keeps, word-grows, word-shrinks, word-ends}
+use Rattle.format.proofs.FourLaws.{four-within}
+use Rattle.format.proofs.WordReads.{read-within, word-keeps, word-grows, word-shrinks, word-ends}
 use Rattle.format.specs.Coefficients.{Four, valueOf, signOf, signsOf, widthNext, groupOf}
 use Rattle.rows.specs.Word.{changeOf, scaledOf, nonzeroOf, signedOf, Quad, splitOf, withSigns, quadOf}
 use Rattle.rows.specs.declared.Change.{Change}

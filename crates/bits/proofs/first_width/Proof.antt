@@ -6,7 +6,7 @@ use lib.Count.{leadingZeros, leading-le}
 use lib.Dec.{lit≤}
 use Rattle.format.specs.Reader.{skipped}
 use Rattle.format.proofs.BitLaws.{prefix-of}
-use Rattle.bits.proofs.Fast.{word-keeps, word-none, word-grows}
+use Rattle.format.proofs.WordReads.{word-keeps, word-none, word-grows}
 use Rattle.bits.proofs.first_width.Statement.{statement}
 use Rattle.bits.proofs.first_width.Tie as tie
 

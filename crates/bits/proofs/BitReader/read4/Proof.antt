@@ -3,7 +3,7 @@ use borrow.Author.Needs.{needs}
 use mathlib.Core.Path.{sym, _∙_}
 use Prim.Native.Nat.{_+_, _*_}
 use native.Mathlib.Omega.{arith}
-use Rattle.bits.proofs.Reads4.{four-within}
+use Rattle.format.proofs.FourLaws.{four-within}
 use Rattle.format.proofs.BitLaws.{prefix, middle, bits-lt}
 use Rattle.format.specs.Coefficients.{fourOf}
 use Rattle.bits.specs.View.{asReader}

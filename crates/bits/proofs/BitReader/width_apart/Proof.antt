@@ -4,7 +4,7 @@ use mathlib.Core.Path.{ap, sym, _∙_}
 use native.Mathlib.Omega.{arith}
 use Rattle.format.specs.Reader.{Reader, unaryOf, findOf, kept}
 use Rattle.bits.specs.View.{asReader, asTaken}
-use Rattle.bits.proofs.Update.{update-zero, update-stopped, update-stopped-2, update-grown, update-shrunk, find-none, grown-zero, shrunk-zero}
+use Rattle.format.proofs.UpdateLaws.{update-zero, update-stopped, update-stopped-2, update-grown, update-shrunk, find-none, grown-zero, shrunk-zero}
 use Rattle.bits.proofs.BitReader.width_apart.Statement.{statement}
 use Rattle.bits.proofs.BitReader.width_apart.Tie as tie
 

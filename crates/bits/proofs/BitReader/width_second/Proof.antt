@@ -4,7 +4,7 @@ use mathlib.Core.Path.{ap, _∙_}
 use native.Mathlib.Omega.{arith}
 use Rattle.format.specs.Reader.{grown, shrunk, findOf, updateSecond}
 use Rattle.bits.specs.View.{asReader, asTaken}
-use Rattle.bits.proofs.Update.{second-stopped, second-grown, second-shrunk}
+use Rattle.format.proofs.UpdateLaws.{second-stopped, second-grown, second-shrunk}
 use Rattle.bits.proofs.BitReader.width_second.Statement.{statement}
 use Rattle.bits.proofs.BitReader.width_second.Tie as tie
 

@@ -2,7 +2,7 @@
 use borrow.Author.Needs.{needs}
 use mathlib.Core.Path.{_∙_}
 use Rattle.bits.specs.View.{asReader, asTaken}
-use Rattle.bits.proofs.Update.{update-zero, update-stopped, update-second}
+use Rattle.format.proofs.UpdateLaws.{update-zero, update-stopped, update-second}
 use Rattle.bits.proofs.BitReader.width_update.Statement.{statement}
 use Rattle.bits.proofs.BitReader.width_update.Tie as tie
 

@@ -6,7 +6,7 @@ use native.Mathlib.Omega.{arith}
 use lib.Pow.{pow-pos}
 use Rattle.format.specs.Reader.{findOf, atMost}
 use Rattle.bits.specs.View.{asReader, asTaken}
-use Rattle.bits.proofs.Run.{exponent-lt, power-below, run-one, run-none, run-stopped, run-part}
+use Rattle.format.proofs.RunLaws.{exponent-lt, power-below, run-one, run-none, run-stopped, run-part}
 use Rattle.bits.proofs.BitReader.zero_run.Statement.{statement}
 use Rattle.bits.proofs.BitReader.zero_run.Tie as tie
 
