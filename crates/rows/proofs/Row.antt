@@ -1,6 +1,6 @@
 -- The turns of a row. Assumes nothing.
 use borrow.Author.Tests.{eq-eqb, ne-eqb, le-leb, lt-leb}
-use mathlib.Core.Path.{_≡_, refl, sym, ap, _∙_}
+use mathlib.Core.Path.{_≡_, sym, ap, _∙_}
 use mathlib.Core.List.{List, [], _∷_, _++_, append-nil}
 use mathlib.Core.Logic.{⊎-elim}
 use Prim.Native.Nat.{ℕ, zero, suc, _+_, _-_, _*_, _/_, _≤_, _<_}
@@ -92,23 +92,6 @@ module _ (s : List ℕ) (sel : ℕ) (whole : Part) (d₀ d : List ℤ) (out g : 
         let q : GroupAnswer = record { values = v1 ∷ v2 ∷ v3 ∷ v4 ∷ []; width = w; reader = r } in
         let n = next (λ rest. groupPart rest g q) (λ rest. step-group rest s sel g t some ok h more ∙ ap (groupPart rest g) (sym e)) some now in
         record { turns = n .0; enough = omega (arith, n .1); values = filled-four d out v1 v2 v3 v4 _ ∙ n .2; reader = n .3 }
-
--- where no group is left, the width is nothing
-pub going-end : (s : List ℕ) (sel : ℕ) (whole : Part) (d₀ d : List ℤ) (out g w w′ : ℕ) (r : Reader) → g ≡ 0
-    → Going s sel whole d₀ d out g (record { value = w; reader = r }) → Going s sel whole d₀ d out g (record { value = w′; reader = r })
-unfolding rowFrom
-going-end s sel whole d₀ d out g w w′ r none now =
-    let e = same (now .turns) in
-    record {
-      turns = now .turns;
-      enough = now .enough;
-      values = ap (λ (p : Part). filled d out (p .values)) (sym e) ∙ now .values;
-      reader = ap (λ (p : Part). p .reader) (sym e) ∙ now .reader;
-    }
-  where
-    same : (f : ℕ) → rowFrom s sel f g (record { value = w; reader = r }) ≡ rowFrom s sel f g (record { value = w′; reader = r })
-    same zero = refl
-    same (suc f) = step-none (rowFrom s sel f) s sel g (record { value = w; reader = r }) none ∙ sym (step-none (rowFrom s sel f) s sel g (record { value = w′; reader = r }) none)
 
 -- a whole row, by the width that it starts with
 pub row-done : (s : List ℕ) (sel n : ℕ) (r : Reader) (first : Taken) → first ≡ updateOf s r 0 → (d₀ d : List ℤ) (t : Reader) → length d₀ ≡ n

@@ -1,16 +1,11 @@
 -- The turns of the loop that takes groups out of single words. Assumes nothing.
 use mathlib.Core.Path.{_≡_, refl, sym, ap, _∙_}
 use mathlib.Core.List.{List, [], _∷_}
-use mathlib.Core.Logic.{⊎-elim}
 use Prim.Native.Nat.{ℕ, _+_, _-_, _*_, _/_, _%_, _^_, _≤_, _<_}
-use native.Mathlib.Nat.{add-zero}
 use native.Mathlib.Omega.{arith}
-use borrow.Author.Tests.{le-leb, lt-leb}
-use lib.Dec.{leb}
 use lib.IntN.{ℤ}
 use lib.ListN.{length, set, length-set}
 use Rattle.format.specs.Bits.{bitsAt}
-use Rattle.format.proofs.BitLaws.{le-or-lt}
 use Rattle.format.specs.Reader.{Reader, Taken, skipped}
 use Rattle.bits.specs.View.{asReader, Ready}
 use Rattle.bits.specs.declared.BitReader.{BitReader}
@@ -18,10 +13,10 @@ use Rattle.rows.specs.declared.Change.{Change}
 use Rattle.rows.specs.declared.Next.{Next}
 use Rattle.rows.specs.declared.Run.{Run}
 use Rattle.format.specs.Coefficients.{Part, RunAnswer, groupOf, widthNext, zerosOf}
-use Rattle.rows.specs.Word.{changeOf, stepOf, scaledOf, signedOf, Quad, splitOf, quadOf, storeQuad, Runs}
+use Rattle.rows.specs.Word.{changeOf, stepOf, scaledOf, signedOf, Quad, splitOf, quadOf, storeQuad, Ends, Runs}
 use Rattle.rows.specs.Stretch.{within, stretchOf}
 use Rattle.rows.specs.Course.{Going, leftOf, Onward, OnwardAll, movedTo, Done, Clean}
-use Rattle.rows.proofs.Row.{going-group, going-run, going-end}
+use Rattle.rows.proofs.Row.{going-group, going-run}
 use Rattle.rows.proofs.Filled.{clean-filled, clean-four}
 use Rattle.rows.proofs.WordLaws.{scaled-zero, front-lt, group-word, next-last, next-more}
 use Rattle.rows.proofs.StretchLaws.{stretch-zero, stretch-signed}
@@ -33,23 +28,18 @@ moved-none r =
     let e : r .place + r .remaining - r .place ≡ r .remaining = omega arith in
     simp e
 
--- one group
-module _ (s : List ℕ) (sel : ℕ) (d : List ℤ) (i : ℕ) (reader : Reader) (place w word : ℕ) (u : Change) (eu : u ≡ stepOf word w (leb (length d) (i + 4)))
-    (d′ : List ℤ) (k : ℕ) (ed : d′ ≡ storeQuad d i (quadOf sel word w (u .used))) (ek : k ≡ quadOf sel word w (u .used) .used)
+-- one group, by the n bits up to its signs and the width after it
+module _ (s : List ℕ) (sel : ℕ) (d : List ℤ) (i : ℕ) (reader : Reader) (place w word n w′ : ℕ)
+    (d′ : List ℤ) (k : ℕ) (ed : d′ ≡ storeQuad d i (quadOf sel word w n)) (ek : k ≡ quadOf sel word w n .used)
     (go : reader .status ≡ 0) (fits : word < 2 ^ 64) (holds : word / 2 ^ 7 ≡ bitsAt s place 57) (some : 1 ≤ w) (most : w ≤ 12) (below : sel < 16)
-    (short : u .used + 4 ≤ 57) (enough : place + (u .used + 4) ≤ reader .place + reader .remaining) (more : i + 4 ≤ length d) where
-  same-length : length d′ ≡ length d
-  same-length = ap length ed ∙ simp length-set
-
-  -- by the width that comes after its values
-  going-by : (w′ : ℕ) → 4 * w ≤ u .used → widthNext s (leftOf d i) w (skipped (movedTo reader place) (4 * w)) ≡ record { value = w′; reader = skipped (movedTo reader place) (u .used) }
-      → (whole : Part) (d₀ : List ℤ) → Going s sel whole d₀ d i (leftOf d i) (record { value = w; reader = movedTo reader place })
-      → Going s sel whole d₀ d′ (i + 4) (leftOf d′ (i + 4)) (record { value = w′; reader = movedTo reader (place + (u .used + k)) })
-  going-by w′ least next whole d₀ now =
+    (least : 4 * w ≤ n) (short : n + 4 ≤ 57) (enough : place + (n + 4) ≤ reader .place + reader .remaining) (more : i + 4 ≤ length d)
+    (next : widthNext s (leftOf d i) w (skipped (movedTo reader place) (4 * w)) ≡ record { value = w′; reader = skipped (movedTo reader place) n }) where
+  pub going-word : (whole : Part) (d₀ : List ℤ) → Going s sel whole d₀ d i (leftOf d i) (record { value = w; reader = movedTo reader place })
+      → Going s sel whole d₀ d′ (i + 4) (leftOf d′ (i + 4)) (record { value = w′; reader = movedTo reader (place + (n + k)) })
+  going-word whole d₀ now =
       let g = leftOf d i in
-      let n = u .used in
       let q : Quad = quadOf sel word w n in
-      let len = same-length in
+      let len : length d′ ≡ length d = ap length ed ∙ simp length-set in
       let left : g - 1 ≡ leftOf d′ (i + 4) = omega arith in
       let e = group-word s (movedTo reader place) sel w word g n w′ fits holds most below least short (omega arith) next in
       let pl : n + k ≡ n + q .used = omega arith in
@@ -59,23 +49,6 @@ module _ (s : List ℕ) (sel : ℕ) (d : List ℤ) (i : ℕ) (reader : Reader) (
       rw left at
       (rw (← ed) at
       (going-group s sel whole d₀ d i g (record { value = w; reader = movedTo reader place }) now (λ z. omega arith) (q .a) (q .b) (q .c) (q .d) w′ (movedTo reader (place + (n + k))) answer go (omega arith) (λ z. omega arith)))
-
-  pub going-word : (whole : Part) (d₀ : List ℤ) → Going s sel whole d₀ d i (leftOf d i) (record { value = w; reader = movedTo reader place })
-      → Going s sel whole d₀ d′ (i + 4) (leftOf d′ (i + 4)) (record { value = u .width; reader = movedTo reader (place + (u .used + k)) })
-  going-word whole d₀ now =
-      let v = changeOf (word * 2 ^ (4 * w) % 2 ^ 64) w in
-      let len = same-length in
-      let uw : u .width ≡ v .width = ap (λ (t : Change). t .width) eu in
-      ⊎-elim
-      (λ (end : length d ≤ i + 4).
-      let un : u .used ≡ 4 * w = ap (λ (t : Change). t .used) eu ∙ simp (le-leb (length d) (i + 4) end, add-zero) in
-      let next = next-last s (movedTo reader place) w word (leftOf d i) (omega arith) in
-      going-end s sel whole d₀ d′ (i + 4) (leftOf d′ (i + 4)) w (u .width) (movedTo reader (place + (u .used + k))) (omega arith) (going-by w (omega arith) (rw un next) whole d₀ now))
-      (λ (on : i + 4 < length d).
-      let un : u .used ≡ 4 * w + v .used = ap (λ (t : Change). t .used) eu ∙ simp (lt-leb (length d) (i + 4) on) in
-      let next = next-more s (movedTo reader place) w word (leftOf d i) go holds some (omega arith) (omega arith) (omega arith) in
-      going-by (u .width) (omega arith) (rw (un, uw) next) whole d₀ now)
-      (le-or-lt (length d) (i + 4))
 
 -- four stores in a list that is stretched up to them
 within-quad : (f : ℤ → ℤ) (d : List ℤ) (a i : ℕ) (q : Quad) → a ≤ i
@@ -115,13 +88,15 @@ used-same : (sel word w n : ℕ) → quadOf 0 word w n .used ≡ quadOf sel word
 unfolding quadOf
 used-same sel word w n = refl
 
--- what holds before each turn
-pub record Turn (s : List ℕ) (d0 : List ℤ) (out width : ℕ) (reader : BitReader) (d : List ℤ) (place word w i : ℕ) : Type 0 where
+-- a word that holds the bits from a place on
+abbrev pub Loaded : List ℕ → ℕ → ℕ → Type 0
+Loaded s place word = (word < 2 ^ 64) × (word / 2 ^ 7 ≡ bitsAt s place 57)
+
+-- what holds before each turn, besides its word
+pub record Turn (s : List ℕ) (d0 : List ℤ) (out width : ℕ) (reader : BitReader) (d : List ℤ) (place w i : ℕ) : Type 0 where
   pub same : length d ≡ length d0
   pub clean : Clean d i
   pub on : OnwardAll s d0 out (record { value = width; reader = asReader reader }) d i (record { value = w; reader = movedTo (asReader reader) place })
-  pub fits : word < 2 ^ 64
-  pub holds : word / 2 ^ 7 ≡ bitsAt s place 57
   pub from : reader .place ≤ place
   pub to : place ≤ reader .place + reader .remaining
   pub forward : out ≤ i
@@ -129,16 +104,14 @@ pub record Turn (s : List ℕ) (d0 : List ℤ) (out width : ℕ) (reader : BitRe
   pub still : i ≡ out → w ≡ width
 
 module _ (s : List ℕ) (d0 : List ℤ) (out width : ℕ) (reader : BitReader) (ready : Ready s reader) (go : reader .status ≡ 0) where
-  pub turn-first : out < length d0 → Clean d0 out → (word : ℕ) → word < 2 ^ 64 → word / 2 ^ 7 ≡ bitsAt s (reader .place) 57 → Turn s d0 out width reader d0 (reader .place) word width out
-  turn-first h clean word fits holds =
+  pub turn-first : out < length d0 → Clean d0 out → Turn s d0 out width reader d0 (reader .place) width out
+  turn-first h clean =
       record {
         same = refl;
         clean = clean;
         on = λ sel below.
             let none = within-none (stretchOf sel) d0 out out (omega arith) in
             record { same = ap length none; clean = clean-within (stretchOf sel) d0 out out clean; goes = λ whole d₀ now. rw (moved-none (asReader reader), none) now };
-        fits = fits;
-        holds = holds;
         from = omega arith;
         to = omega arith;
         forward = omega arith;
@@ -146,16 +119,15 @@ module _ (s : List ℕ) (d0 : List ℤ) (out width : ℕ) (reader : BitReader) (
         still = λ e. refl;
       }
 
-  module _ (d : List ℤ) (place w i word : ℕ) (turn : Turn s d0 out width reader d place word w i) (more : i + 4 ≤ length d0) (next : ℕ) (fits : next < 2 ^ 64) where
-    -- a group
-    pub turn-group : 1 ≤ w → w ≤ 12 → (u : Change) → u ≡ stepOf word w (leb (length d0) (i + 4))
-        → (u .used + 4 ≤ 56) × (place + (u .used + 4) ≤ reader .place + reader .remaining)
-        → (d′ : List ℤ) (k : ℕ) → d′ ≡ storeQuad d i (quadOf 0 word w (u .used)) → k ≡ quadOf 0 word w (u .used) .used → k ≤ 4
-        → next / 2 ^ 7 ≡ bitsAt s (place + (u .used + k)) 57
-        → Turn s d0 out width reader d′ (place + (u .used + k)) next (u .width) (i + 4)
-    turn-group some most u eu room d′ k ed ek few holds =
+  module _ (d : List ℤ) (place w i word : ℕ) (turn : Turn s d0 out width reader d place w i) (loaded : Loaded s place word) where
+    -- a group, by the n bits up to its signs and the width after it
+    turn-quad : (n w′ : ℕ) → 1 ≤ w → w ≤ 12 → 4 * w ≤ n → n + 4 ≤ 57 → place + (n + 4) ≤ reader .place + reader .remaining → i + 4 ≤ length d0
+        → widthNext s (leftOf d0 i) w (skipped (movedTo (asReader reader) place) (4 * w)) ≡ record { value = w′; reader = skipped (movedTo (asReader reader) place) n }
+        → (d′ : List ℤ) (k : ℕ) → d′ ≡ storeQuad d i (quadOf 0 word w n) → k ≡ quadOf 0 word w n .used → k ≤ 4
+        → Turn s d0 out width reader d′ (place + (n + k)) w′ (i + 4)
+    turn-quad n w′ some most least short enough more next d′ k ed ek few =
         let len = turn .same in
-        let q = quadOf 0 word w (u .used) in
+        let q = quadOf 0 word w n in
         let clean : Clean d′ (i + 4) = rw ed (clean-four d i (q .a) (q .b) (q .c) (q .d) (turn .clean)) in
         record {
           same = ap length ed ∙ simp length-set len;
@@ -164,17 +136,17 @@ module _ (s : List ℕ) (d0 : List ℤ) (out width : ℕ) (reader : BitReader) (
               let f = stretchOf sel in
               let e : List ℤ = within f d out i in
               let e′ : List ℤ = within f d′ out (i + 4) in
-              let lene : length e ≡ length d = within-length f d out i in
-              let eu′ = eu ∙ ap (λ (n : ℕ). stepOf word w (leb n (i + 4))) (sym (lene ∙ len)) in
-              let ee : e′ ≡ storeQuad e i (quadOf sel word w (u .used)) =
-              ap (λ (l : List ℤ). within f l out (i + 4)) ed ∙ within-quad f d out i q (turn .forward) ∙ ap (storeQuad e i) (stretch-quad sel word w (u .used) below (turn .fits) most) in
+              let lene : length e ≡ length d0 = within-length f d out i ∙ len in
+              let ee : e′ ≡ storeQuad e i (quadOf sel word w n) =
+              ap (λ (l : List ℤ). within f l out (i + 4)) ed ∙ within-quad f d out i q (turn .forward) ∙ ap (storeQuad e i) (stretch-quad sel word w n below (loaded .0) most) in
+              let next′ = ap (λ (m : ℕ). widthNext s ((m - i + 3) / 4) w (skipped (movedTo (asReader reader) place) (4 * w))) lene ∙ next in
               record {
                 same = ap length ee ∙ simp length-set (turn .on sel below .same);
                 clean = clean-within f d′ out (i + 4) clean;
-                goes = λ whole d₀ now. going-word s sel e i (asReader reader) place w word u eu′ e′ k ee (ek ∙ used-same sel word w (u .used)) go (turn .fits) (turn .holds) some most below (omega arith) (room .1) (omega arith) whole d₀ (turn .on sel below .goes whole d₀ now);
+                goes = λ whole d₀ now.
+                    going-word s sel e i (asReader reader) place w word n w′ e′ k ee (ek ∙ used-same sel word w n) go (loaded .0) (loaded .1) some most below least short enough (omega arith) next′ whole d₀
+                    (turn .on sel below .goes whole d₀ now);
               };
-          fits = fits;
-          holds = holds;
           from = omega arith;
           to = omega arith;
           forward = omega arith;
@@ -182,14 +154,32 @@ module _ (s : List ℕ) (d0 : List ℤ) (out width : ℕ) (reader : BitReader) (
           still = λ e. omega arith;
         }
 
+    -- a group before the last
+    pub turn-group : i + 4 < length d0 → 1 ≤ w → w ≤ 12 → (u : Change) → u ≡ stepOf word w → (u .used + 4 ≤ 56) × (place + (u .used + 4) ≤ reader .place + reader .remaining)
+        → (d′ : List ℤ) (k : ℕ) → d′ ≡ storeQuad d i (quadOf 0 word w (u .used)) → k ≡ quadOf 0 word w (u .used) .used → k ≤ 4
+        → Turn s d0 out width reader d′ (place + (u .used + k)) (u .width) (i + 4)
+    turn-group more some most u eu room =
+        let v = changeOf (word * 2 ^ (4 * w) % 2 ^ 64) w in
+        let uw : u .width ≡ v .width = ap (λ (t : Change). t .width) eu in
+        let un : u .used ≡ 4 * w + v .used = ap (λ (t : Change). t .used) eu in
+        let next = next-more s (movedTo (asReader reader) place) w word (leftOf d0 i) go (loaded .1) some (omega arith) (omega arith) (omega arith) in
+        turn-quad (u .used) (u .width) some most (omega arith) (omega arith) (room .1) (omega arith) (rw (un, uw) next)
+
+    -- the last group
+    pub turn-end : Ends w i (length d0) place (reader .place + reader .remaining)
+        → (d′ : List ℤ) (k : ℕ) → d′ ≡ storeQuad d i (quadOf 0 word w (4 * w)) → k ≡ quadOf 0 word w (4 * w) .used → k ≤ 4
+        → Turn s d0 out width reader d′ (place + (4 * w + k)) w (i + 4)
+    turn-end ends =
+        let last = ends .last in
+        turn-quad (4 * w) w (ends .some) (ends .short) (omega arith) (omega (arith, ends .short)) (ends .enough) (omega arith) (next-last s (movedTo (asReader reader) place) w word (leftOf d0 i) (omega arith))
+
     -- a zero run
-    pub turn-run : w ≡ 0 → (h : Run) → Runs word ((length d0 - i + 3) / 4) h → (h .used ≤ 56) × (place + h .used ≤ reader .place + reader .remaining)
-        → next / 2 ^ 7 ≡ bitsAt s (place + h .used) 57
-        → (0 < h .groups) × Turn s d0 out width reader d (place + h .used) next (h .width) (i + 4 * h .groups)
-    turn-run none h runs room holds =
+    pub turn-run : i + 4 ≤ length d0 → w ≡ 0 → (h : Run) → Runs word (leftOf d0 i) h → (h .used ≤ 56) × (place + h .used ≤ reader .place + reader .remaining)
+        → (0 < h .groups) × Turn s d0 out width reader d (place + h .used) (h .width) (i + 4 * h .groups)
+    turn-run more none h runs room =
         let len = turn .same in
         let r = movedTo (asReader reader) place in
-        let got = runs .reads s r (turn .holds) (omega arith) (omega arith) go in
+        let got = runs .reads s r (loaded .1) (omega arith) (omega arith) go in
         let most = runs .most in (
           got .0,
           record {
@@ -201,7 +191,7 @@ module _ (s : List ℕ) (d0 : List ℤ) (out width : ℕ) (reader : BitReader) (
                 let lene : length e ≡ length d = within-length f d out i in
                 let on = turn .on sel below in
                 let stays : within f d out (i + 4 * h .groups) ≡ e = within-clean f d out i (4 * h .groups) (turn .clean) (stretch-zero sel) (turn .forward) in
-                let same : leftOf e i ≡ (length d0 - i + 3) / 4 = omega arith in
+                let same : leftOf e i ≡ leftOf d0 i = omega arith in
                 let left : leftOf e i - h .groups ≡ leftOf e (i + 4 * h .groups) = omega arith in
                 let rm : reader .place + reader .remaining - (place + h .used) ≡ reader .place + reader .remaining - place - h .used = omega arith in
                 let run : record { groups = h .groups; width = h .width; reader = movedTo (asReader reader) (place + h .used) } ≡ zerosOf s (leftOf e i) r =
@@ -215,8 +205,6 @@ module _ (s : List ℕ) (d0 : List ℤ) (out width : ℕ) (reader : BitReader) (
                       (going-run s sel whole d₀ e i (leftOf e i) (record { value = w; reader = r }) (on .goes whole d₀ now) (λ z. omega arith) e
                       (record { groups = h .groups; width = h .width; reader = movedTo (asReader reader) (place + h .used) }) run (got .0) go none (clean-filled e i (on .clean) (4 * h .groups)));
                 });
-            fits = fits;
-            holds = holds;
             from = omega arith;
             to = omega arith;
             forward = omega arith;
@@ -225,11 +213,11 @@ module _ (s : List ℕ) (d0 : List ℤ) (out width : ℕ) (reader : BitReader) (
           },
         )
 
-  pub turn-last : (d : List ℤ) (place word w i : ℕ) → Turn s d0 out width reader d place word w i
+  pub turn-last : (d : List ℤ) (place w i : ℕ) → Turn s d0 out width reader d place w i
       → (n : Next) → (n .out ≡ i) × (n .width ≡ w) × (asReader (n .reader) ≡ movedTo (asReader reader) place)
       → OnwardAll s d0 out (record { value = width; reader = asReader reader }) d (n .out) (record { value = n .width; reader = asReader (n .reader) })
       × Done s (length d0) out width (n .out) (n .width) (n .reader)
-  turn-last d place word w i turn n e =
+  turn-last d place w i turn n e =
       let r = n .reader in
       let p : r .place ≡ place = ap (λ (t : Reader). t .place) (e .2) in
       let m : r .remaining ≡ reader .place + reader .remaining - place = ap (λ (t : Reader). t .remaining) (e .2) in

@@ -1,7 +1,7 @@
 -- A zero run, or a group of four values, out of one word that holds all its bits: what is read from the word.
 use mathlib.Core.Path.{_≡_}
 use mathlib.Core.List.{List}
-use mathlib.Core.Bool.{Bool, cond}
+use mathlib.Core.Bool.{cond}
 use Prim.Native.Nat.{ℕ, _+_, _-_, _*_, _/_, _%_, _^_, _≤_, _<_, min}
 use lib.IntN.{ℤ, pos, negℤ}
 use lib.Signed.{ltZ}
@@ -30,11 +30,11 @@ changeOf word w =
       used = cond (ltb word (2 ^ 63)) 1 (cond (ltb word (2 ^ 63 + 2 ^ 62)) (z + 3) (min (z + 3) (w + 1)));
     }
 
--- the width after a group, and the bits of its values and its update; the last group has no update
-abbrev pub stepOf : ℕ → ℕ → Bool → Change
-stepOf word w last =
+-- the width after a group, and the bits of its values and its update
+abbrev pub stepOf : ℕ → ℕ → Change
+stepOf word w =
     let u = changeOf (word * 2 ^ (4 * w) % 2 ^ 64) w in
-    record { width = u .width; used = 4 * w + cond last 0 (u .used) }
+    record { width = u .width; used = 4 * w + u .used }
 
 -- h is the zero run that the word starts with, wherever the word holds all its bits
 pub record Runs (word left : ℕ) (h : Run) : Type 0 where
@@ -103,5 +103,12 @@ storeQuad l i q = set (set (set (set l i (q .a)) (i + 1) (q .b)) (i + 2) (q .c))
 -- what the loop of runs and groups asks of the next one
 pub record Near (w out n place end : ℕ) : Type 0 where
   pub short : w ≤ 12
-  pub more : out + 4 ≤ n
+  pub more : out + 4 < n
   pub before : place < end
+
+-- what is asked of the last group of a row
+pub record Ends (w out n place stop : ℕ) : Type 0 where
+  pub some : 1 ≤ w
+  pub short : w ≤ 12
+  pub last : n ≡ out + 4
+  pub enough : place + (4 * w + 4) ≤ stop

@@ -10,7 +10,7 @@ ghost use lib.ListN.{length, replicate, set};
 ghost use Rattle.format.specs.Coefficients.{valueOf, signOf, signsOf, widthAfter, widthNext, groupOf, zerosOf, stopped, rowOf};
 ghost use Rattle.bits.specs.View.{asReader, asTaken, asFour, Ready};
 ghost use Rattle.rows.specs.View.{asSigned, asSignedFour, asGroup, asRun};
-ghost use Rattle.rows.specs.Word.{signBitOf, changeOf, nonzeroOf, signedOf, quadOf, storeQuad, Near, Runs, stepOf};
+ghost use Rattle.rows.specs.Word.{signBitOf, changeOf, nonzeroOf, signedOf, quadOf, storeQuad, Near, Ends, Runs, stepOf};
 ghost use Rattle.rows.specs.Stretch.{stretchOf, within};
 ghost use Rattle.rows.specs.Course.{stateOf, filled, movedTo, Halted, Clean, Onward, OnwardAll, Done};
 use bits::BitReader;
@@ -412,7 +412,7 @@ fn edge(packet: &[u8]) -> u64
     less(least(packet.len() as u64, 0x100_0000_0000) * 8, 127)
 }
 
-// Whether a word is there to take a run or a short group of four columns from.
+// Whether a word is there to take a run or a short group from, and the group is not the row's last.
 fn near(width: u64, out: usize, n: usize, place: u64, end: u64) -> bool
     requires { ⌜ out < 2 ^ 33 ⌝ }
     ensures { λ r. ⌜ (r ≡ true → Near width out n place end) × (r ≡ false → Near width out n place end → ⊥) ⌝ }
@@ -420,7 +420,7 @@ fn near(width: u64, out: usize, n: usize, place: u64, end: u64) -> bool
     if 12 < width {
         return false;
     }
-    if n < out + 4 {
+    if n <= out + 4 {
         return false;
     }
     place < end
@@ -474,17 +474,34 @@ fn run_word(word: u64, left: u64) -> Run
     }
 }
 
-// The width after a group, and the bits of its values and its update, out of a word; the last group of a row has no update.
-fn step(word: u64, width: u64, last: bool) -> Change
+// The width after a group, and the bits of its values and its update, out of a word.
+fn step(word: u64, width: u64) -> Change
     requires { ⌜ width ≤ 12 ⌝ }
-    ensures { λ r. ⌜ r ≡ stepOf word width last ⌝ }
+    ensures { λ r. ⌜ r ≡ stepOf word width ⌝ }
     ensures { λ r. ⌜ r .used ≤ 115 ⌝ }
 {
     let u = changed(word << (4 * width), width);
     Change {
         width: u.width,
-        used: 4 * width + pick(last, 0, u.used),
+        used: 4 * width + u.used,
     }
+}
+
+// Whether the row's last group, which has no update, is short and whole, and its signs are within the allowance.
+fn ends(width: u64, out: usize, n: usize, place: u64, stop: u64) -> bool
+    requires { ⌜ (out < 2 ^ 33) × (place < 2 ^ 40) ⌝ }
+    ensures { λ r. ⌜ (r ≡ true → Ends width out n place stop) × (r ≡ false → Ends width out n place stop → ⊥) ⌝ }
+{
+    if width == 0 {
+        return false;
+    }
+    if 12 < width {
+        return false;
+    }
+    if n != out + 4 {
+        return false;
+    }
+    place + 4 * width + 4 <= stop
 }
 
 // A point of a row, with the reader that has come to it.
@@ -526,7 +543,7 @@ fn fast(reader: BitReader, packet: &[u8], width: u64, dst: &mut [i32], out: usiz
             word = after(packet, place, h.used);
             place = place + h.used;
         } else {
-            let u = step(word, w, n <= i + 4);
+            let u = step(word, w);
             if over(place, u.used + 4, stop) {
                 return arrived(reader, place, w, i);
             }
@@ -536,6 +553,10 @@ fn fast(reader: BitReader, packet: &[u8], width: u64, dst: &mut [i32], out: usiz
             word = after(packet, place, taken);
             place = place + taken;
         }
+    }
+    if ends(w, i, n, place, stop) {
+        let taken = 4 * w + quad(dst, i, word, w, 4 * w);
+        return arrived(reader, place + taken, w, i + 4);
     }
     arrived(reader, place, w, i)
 }
