@@ -141,7 +141,8 @@ impl Packets<'_> {
 
 /// Coefficients by the original's `packet_planes`, whose planes are dropped after each packet, so
 /// that its allocator has their memory at hand, and by ours; then by the original with all planes of
-/// the tile kept, as its `decode_stream` does with those of a colour.
+/// the tile kept. Its `decode_stream` lies between: it drops a packet's planes after their level, and
+/// allocates those of synthesis beside them.
 fn measure_packets(decoder: &impl PacketDecoder, stream: &Stream, groups: &[usize]) {
     let directory = parse_directory(&stream.bytes).expect("the stream is accepted");
     let packets = Packets { stream, directory, groups };
