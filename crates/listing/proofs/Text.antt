@@ -1,16 +1,13 @@
 -- Laws of text that is put into a list piece by piece, and of decimal digits. Assumes nothing.
 use mathlib.Core.Path.{_≡_, refl, sym, ap, _∙_}
-use mathlib.Core.List.{List, [], _∷_, _++_, append-assoc, append-nil}
-use mathlib.Core.Bool.{Bool, true, false, cond}
+use mathlib.Core.List.{List, [], _∷_, _++_}
 use mathlib.Core.Logic.{⊎-elim}
 use Prim.Native.Nat.{ℕ, zero, suc, _+_, _*_, _/_, _%_, _^_, _≤_, _<_}
 use native.Mathlib.Nat.{pow-suc, add-zero}
 use native.Mathlib.Omega.{arith}
 use borrow.Author.Tests.{lt-ltb, le-ltb}
-use lib.Dec.{ltb}
 use lib.ListN.{length, set, getD, length-append, take-append-drop}
 use Rattle.lists.specs.Lists.{putAt, rows}
-use Rattle.lists.proofs.Tab.{length-put}
 use Rattle.lists.proofs.Part.{put-next}
 use Rattle.format.proofs.BitLaws.{le-or-lt}
 use Rattle.format.specs.Strip.{Tile}
@@ -34,9 +31,6 @@ pub put-on : (l m k xs ys : List ℕ) (a b e : ℕ) → Put l m a b xs → Put m
 put-on l m k xs ys a b e (p, q) (r, s) h =
     let long = length-append xs ys in
     (omega (arith, p, r, long), put-next l m k xs ys a (length xs) refl q (s ∙ ap (λ (j : ℕ). putAt m j ys) p) (omega (arith, p, h)))
-
-pub put-long : (l m xs : List ℕ) (a e : ℕ) → Put l m a e xs → e ≤ length l → length m ≡ length l
-put-long l m xs a e (p, q) h = ap length q ∙ length-put l a xs (omega (arith, p, h))
 
 -- ---- decimal digits
 

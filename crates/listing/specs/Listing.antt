@@ -1,6 +1,6 @@
 -- The text that the program `tiles` prints: document 01, 'Points on the line'. Text is a list of ASCII codes.
 use mathlib.Core.List.{List, [], _∷_, _++_}
-use mathlib.Core.Bool.{Bool, cond}
+use mathlib.Core.Bool.{cond}
 use Prim.Native.Nat.{ℕ, zero, suc, _+_, _/_, _%_}
 use lib.Dec.{ltb}
 use lib.ListN.{length, getD, drop}

@@ -7,7 +7,7 @@ use Prim.Native.Nat.{ℕ, zero, suc, _+_, _-_, _/_, _≤_, _<_}
 use native.Mathlib.Omega.{arith}
 use borrow.Author.Tests.{le-leb, ne-eqb}
 use lib.Dec.{leb, eqb}
-use lib.ListN.{length, drop}
+use lib.ListN.{length}
 use Rattle.format.specs.Strip.{Tile, validHeader, width, codedHeight, payload, unless0, word, fits, onlyIf, tileAt, orElse, firstTaken, listed}
 use Rattle.strip.specs.declared.LocatedTile.the-variants as answer
 use Rattle.strip.specs.Answers.{stream, answerOf, answerNumber, placed, locatedOf, Sound}

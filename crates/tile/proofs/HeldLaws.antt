@@ -121,9 +121,6 @@ module _ (s : List ℕ) (i : Colour) (whole : width s % 16 ≡ 0) (kinds : (m : 
   pub length-two : length (bandValues s (detail l2) i) ≡ 12 * u
   length-two = omega (arith, rw eighth at (length-band (detail l2) tt))
 
-  pub length-three : length (bandValues s (detail l3) i) ≡ 48 * u
-  length-three = omega (arith, rw quarter at (length-band (detail l3) tt))
-
   -- so work holds the plane, where they stand from its start on
   module _ (size : Coded (width s) (codedHeight s)) (old : List ℤ) where
     abbrev v0 : List ℤ

@@ -5,12 +5,6 @@ use Rattle.format.proofs.TurnLaws.{stops}
 use Rattle.strip.proofs.Search.{told, told-not}
 use Rattle.packets.proofs.first_refusal.Statement.{statement}
 use Rattle.packets.proofs.first_refusal.Tie as tie
-use Rattle.packets.proofs.first_refusal.Reads as reads
-use Rattle.packets.proofs.first_refusal.Lts as lts
-use Rattle.packets.proofs.check_lent.Reads as check-lent-reads
-use Rattle.packets.proofs.check_packets.Reads as check-packets-reads
-use Rattle.packets.proofs.directory.parse_directory.Reads as parse-directory-reads
-use Rattle.strip.proofs.parse_stream_header.Reads as parse-stream-header-reads
 
 -- src/lib.rt:233:34
 parse-stream-header-requires : tie.Need-parse-stream-header-requires
