@@ -1,10 +1,11 @@
 pub mod Filled
+pub mod LevelLaws
 pub mod Numbers
 pub mod Row
 pub mod RunWord
 pub mod SignWord
 pub mod Steps
 pub mod StretchLaws
+pub mod UpdateTable
 pub mod WidthChange
-pub mod Within
 pub mod WordLaws

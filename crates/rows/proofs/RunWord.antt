@@ -30,16 +30,12 @@ length-none x e =
     let none : l .0 < 1 = exponent-lt (l .0) 1 (omega (arith, l .3)) in
     omega (arith, l .1, none)
 
--- a one among the first k bits of a word
-pub lead-lt : (word k : ℕ) → word < 2 ^ 64 → k ≤ 64 → (word / 2 ^ (64 - k) ≡ 0 → ⊥) → leadingZeros 64 word < k
-lead-lt word k fits most some =
+-- the first k bits of a word that starts with k zeros or more
+pub lead-none : (word k : ℕ) → word < 2 ^ 64 → k ≤ leadingZeros 64 word → word / 2 ^ (64 - k) ≡ 0
+lead-none word k fits zeros =
     let l = leading-length 64 word fits in
-    ⊎-elim
-    (λ (h : k ≤ leadingZeros 64 word).
     let shorter : l .0 ≤ 64 - k = omega (arith, l .1) in
-    absurd (some (div-eq-of-lt (lt-of-lt-of-le (l .2) (pow-mono shorter)))))
-    (λ (h : leadingZeros 64 word < k). h)
-    (le-or-lt k (leadingZeros 64 word))
+    div-eq-of-lt (lt-of-lt-of-le (l .2) (pow-mono shorter))
 
 module _ (s : List ℕ) (r : Reader) (word g : ℕ) (fits : word < 2 ^ 64) (holds : word / 2 ^ 7 ≡ bitsAt s (r .place) 57) (some : 0 < g) (below : g < 2 ^ 31) (go : r .status ≡ 0) where
   -- a run, and the width after it

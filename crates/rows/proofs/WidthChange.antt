@@ -1,20 +1,20 @@
 -- Laws of a width update that is reckoned below 0 too. Assumes nothing.
 use borrow.Author.Tests.{eq-eqb, ne-eqb, lt-ltb, le-ltb, le-leb, lt-leb}
 use mathlib.Core.Path.{_≡_}
-use mathlib.Core.Bool.{Bool, true, false, cond, true≢false}
+use mathlib.Core.Bool.{Bool, true, false, cond}
 use mathlib.Core.Logic.{⊎-elim}
 use Prim.Native.Nat.{ℕ, zero, suc, _+_, _-_, _*_, _/_, _%_, _^_, _<_, _≤_, min}
 use native.Mathlib.Omega.{arith}
 use lib.Count.{leadingZeros}
-use lib.Dec.{T, ltb, eqb}
-use lib.IntN.{ℤ, pos, negsuc, negℤ, natAbs, _+ℤ_, _-ℤ_}
-use lib.Signed.{leZ, nonNeg, mag}
+use lib.Dec.{ltb, eqb}
+use lib.IntN.{ℤ, pos, negsuc, negℤ, _+ℤ_, _-ℤ_}
+use lib.Signed.{leZ, mag}
 use mir.Syntax.{w64}
-use mir.Val.{Fits, SFits}
+use mir.Val.{SFits}
 use Rattle.wrap32.proofs.Laws.{less-some, less-none}
 use Rattle.format.proofs.BitLaws.{le-or-lt}
 use Rattle.rows.specs.declared.Change.{Change}
-use Rattle.rows.specs.Word.{changeOf}
+use Rattle.rows.specs.Word.{changeOf, levelOf}
 
 -- what is far from the ends of its range can be negated
 pub turned-fits : (e : ℤ) → mag e < 2 ^ 62 → SFits w64 (negℤ e)
@@ -22,13 +22,8 @@ turned-fits (pos zero) h = record { sfits = omega arith }
 turned-fits (pos (suc n)) h = record { sfits = omega arith }
 turned-fits (negsuc n) h = record { sfits = omega arith }
 
--- what is above 0 is a magnitude
-pub above-cast : (y : ℤ) → leZ y (pos 0) ≡ false → SFits w64 y → T (nonNeg y) × Fits w64 (natAbs y)
-above-cast (pos n) e f = (tt, record { fits = omega (arith, f .sfits) })
-above-cast (negsuc n) e f = absurd (true≢false e)
-
 -- a number less one that is no smaller is not above 0
-less-low : (w d : ℕ) → w ≤ d → leZ (pos w -ℤ pos d) (pos 0) ≡ true
+pub less-low : (w d : ℕ) → w ≤ d → leZ (pos w -ℤ pos d) (pos 0) ≡ true
 less-low w d h =
     ⊎-elim (λ (le : d ≤ w). simp (less-some w d le) (le-leb (w - d) 0 (omega arith))) (λ (lt : w < d). simp (less-none w d lt)) (le-or-lt d w)
 
@@ -50,12 +45,12 @@ module _ (word w d : ℕ) (fits : word < 2 ^ 64) (count : d ≡ leadingZeros 64 
   abbrev reckoned : Change
   reckoned =
       record {
-        width = cond (ltb word (2 ^ 63)) w (cond (leZ target (pos 0)) 0 (natAbs target));
+        width = cond (ltb word (2 ^ 63)) w (levelOf target);
         used = cond (ltb word (2 ^ 63)) 0 (cond (leZ target (pos 0)) w (d + 1)) + 1;
       }
 
   pub change-moved : reckoned ≡ changeOf word w
-  unfolding changeOf
+  unfolding changeOf levelOf
   change-moved =
       ⊎-elim
       (λ (high : 2 ^ 63 ≤ word).

@@ -20,7 +20,8 @@ use Rattle.format.proofs.BitLaws.{le-or-lt, bits-lt, bits-low, prefix, middle-o
 use Rattle.format.proofs.FourLaws.{four-within}
 use Rattle.format.proofs.WordReads.{read-within, word-keeps, word-grows, word-shrinks, word-ends}
 use Rattle.format.specs.Coefficients.{Four, valueOf, signOf, signsOf, widthNext, groupOf}
-use Rattle.rows.specs.Word.{changeOf, scaledOf, nonzeroOf, signedOf, Quad, splitOf, withSigns, quadOf}
+use Rattle.rows.specs.declared.Quad.{Quad}
+use Rattle.rows.specs.Word.{changeOf, scaledOf, nonzeroOf, signedOf, splitOf, withSigns, quadOf}
 use Rattle.rows.specs.declared.Change.{Change}
 use Rattle.rows.proofs.Numbers.{le-shl, value-plain, value-none, value-some}
 

@@ -9,7 +9,6 @@ use Rattle.format.specs.Reader.{Reader, Taken}
 use Rattle.format.specs.Coefficients.{Part, rowFrom}
 use Rattle.bits.specs.declared.BitReader.{BitReader}
 use Rattle.bits.specs.View.{asReader, Ready}
-use Rattle.rows.specs.Stretch.{within, stretchOf}
 
 -- a width and a reader
 abbrev pub stateOf : ℕ → BitReader → Taken
@@ -43,10 +42,6 @@ pub record Onward (s : List ℕ) (sel : ℕ) (d : List ℤ) (out : ℕ) (t : Tak
   pub same : length d′ ≡ length d
   pub clean : Clean d′ out′
   pub goes : (whole : Part) (d₀ : List ℤ) → Going s sel whole d₀ d out (leftOf d out) t → Going s sel whole d₀ d′ out′ (leftOf d′ out′) t′
-
--- the same under every selector, where the list holds what selector 0 gives
-abbrev pub OnwardAll : List ℕ → List ℤ → ℕ → Taken → List ℤ → ℕ → Taken → Type 0
-OnwardAll s d out t d′ out′ t′ = (sel : ℕ) → sel < 16 → Onward s sel d out t (within (stretchOf sel) d′ out out′) out′ t′
 
 -- a reader further on in its allowance
 abbrev pub movedTo : Reader → ℕ → Reader

@@ -3,15 +3,17 @@ use mathlib.Core.Path.{_≡_}
 use mathlib.Core.List.{List}
 use mathlib.Core.Bool.{cond}
 use Prim.Native.Nat.{ℕ, _+_, _-_, _*_, _/_, _%_, _^_, _≤_, _<_, min}
-use lib.IntN.{ℤ, pos, negℤ}
-use lib.Signed.{ltZ}
+use lib.IntN.{ℤ, pos, negℤ, natAbs}
+use lib.Signed.{ltZ, leZ}
 use lib.ListN.{set}
 use lib.Count.{leadingZeros}
 use lib.Dec.{ltb, eqb}
 use Rattle.format.specs.Bits.{bitsAt}
 use Rattle.format.specs.Reader.{Reader, skipped}
 use Rattle.format.specs.Coefficients.{zerosOf}
+use Rattle.lists.specs.Lists.{tab}
 use Rattle.rows.specs.declared.Change.{Change}
+use Rattle.rows.specs.declared.Quad.{Quad}
 use Rattle.rows.specs.declared.Run.{Run}
 use Rattle.rows.specs.declared.SignBit.{SignBit}
 
@@ -36,10 +38,29 @@ stepOf word w =
     let u = changeOf (word * 2 ^ (4 * w) % 2 ^ 64) w in
     record { width = u .width; used = 4 * w + u .used }
 
+-- a width that may be reckoned below 0, where it counts as 0
+unfoldable pub levelOf : ℤ → ℕ
+levelOf y = cond (leZ y (pos 0)) 0 (natAbs y)
+
+-- what an update does to the width, by its first five bits
+unfoldable pub moveOf : ℕ → ℤ
+moveOf k =
+    let d = pos (leadingZeros 3 (k % 8) + 1) in
+    cond (ltb k 16) (pos 0) (cond (ltb k 24) d (negℤ d))
+
+-- its bits, where they are no more than five; else 64
+unfoldable pub lengthOf : ℕ → ℕ
+lengthOf k = cond (ltb k 16) 1 (cond (eqb (k % 8) 0) 64 (leadingZeros 3 (k % 8) + 3))
+
+-- the tables of both
+abbrev pub Tables : List ℤ → List ℕ → Type 0
+Tables moves lengths = (moves ≡ tab 32 moveOf) × (lengths ≡ tab 32 lengthOf)
+
 -- h is the zero run that the word starts with, wherever the word holds all its bits
 pub record Runs (word left : ℕ) (h : Run) : Type 0 where
   pub most : h .groups ≤ left
   pub few : h .used ≤ 128
+  pub short : h .width ≤ 65
   pub reads : (s : List ℕ) (r : Reader) → word / 2 ^ 7 ≡ bitsAt s (r .place) 57 → h .used ≤ 57 → h .used ≤ r .remaining → r .status ≡ 0
       → (0 < h .groups) × (zerosOf s left r ≡ record { groups = h .groups; width = h .width; reader = skipped r (h .used) })
 
@@ -54,14 +75,6 @@ nonzeroOf u = cond (eqb u 0) 0 1
 -- a magnitude under a sign bit
 unfoldable pub signedOf : ℕ → ℕ → ℤ
 signedOf m bit = cond (eqb bit 0) (pos m) (negℤ (pos m))
-
--- four values with their signs, and the sign bits taken
-pub record Quad : Type 0 where
-  pub a : ℤ
-  pub b : ℤ
-  pub c : ℤ
-  pub d : ℤ
-  pub used : ℕ
 
 -- four values
 pub record Split : Type 0 where
@@ -101,9 +114,9 @@ abbrev pub storeQuad : List ℤ → ℕ → Quad → List ℤ
 storeQuad l i q = set (set (set (set l i (q .a)) (i + 1) (q .b)) (i + 2) (q .c)) (i + 3) (q .d)
 
 -- what the loop of runs and groups asks of the next one
-pub record Near (w out n place end : ℕ) : Type 0 where
+pub record Near (w out last place end : ℕ) : Type 0 where
   pub short : w ≤ 12
-  pub more : out + 4 < n
+  pub more : out < last
   pub before : place < end
 
 -- what is asked of the last group of a row

@@ -4,15 +4,15 @@ ghost use mathlib.Core.Bool.{true, false, cond};
 ghost use mathlib.Core.List.{List, _++_};
 ghost use Prim.Native.Nat.{_+_, _-_, _*_, _%_, _^_, _<_, _≤_, min};
 ghost use lib.IntN.{ℤ, pos, negℤ, natAbs, _+ℤ_};
-ghost use lib.Signed.{ltZ, leZ, mag};
+ghost use lib.Signed.{ltZ, mag};
 ghost use lib.Dec.{eqb, ltb};
 ghost use lib.ListN.{length, replicate, set};
 ghost use Rattle.format.specs.Coefficients.{valueOf, signOf, signsOf, widthAfter, widthNext, groupOf, zerosOf, stopped, rowOf};
 ghost use Rattle.bits.specs.View.{asReader, asTaken, asFour, Ready};
 ghost use Rattle.rows.specs.View.{asSigned, asSignedFour, asGroup, asRun};
-ghost use Rattle.rows.specs.Word.{signBitOf, changeOf, nonzeroOf, signedOf, quadOf, storeQuad, Near, Ends, Runs, stepOf};
-ghost use Rattle.rows.specs.Stretch.{stretchOf, within};
-ghost use Rattle.rows.specs.Course.{stateOf, filled, movedTo, Halted, Clean, Onward, OnwardAll, Done};
+ghost use Rattle.rows.specs.Word.{signBitOf, changeOf, nonzeroOf, signedOf, quadOf, storeQuad, levelOf, Tables, Near, Ends, Runs, stepOf};
+ghost use Rattle.rows.specs.Stretch.{stretchOf, stretchQuad};
+ghost use Rattle.rows.specs.Course.{stateOf, filled, movedTo, Halted, Clean, Onward, Done};
 use bits::BitReader;
 use bits::Four;
 use bits::Taken;
@@ -20,7 +20,6 @@ use bits::bit_length;
 use bits::least;
 use bits::less;
 use words::after;
-use words::top;
 use words::window;
 use wrap32::cut32;
 
@@ -328,7 +327,7 @@ fn moved(width: u64, d: u64, bit: u64) -> i64
 
 // A number, or 0 where it is below 0.
 fn above(y: i64) -> u64
-    ensures { λ r. ⌜ r ≡ cond (leZ y (pos 0)) 0 (natAbs y) ⌝ }
+    ensures { λ r. ⌜ r ≡ levelOf y ⌝ }
 {
     if y <= 0 { 0 } else { y as u64 }
 }
@@ -373,11 +372,19 @@ fn with_bit(m: u64, bit: u64) -> i32
     if bit == 0 { z } else { -z }
 }
 
-// Four values with their signs out of a word, of which `used` bits come before the signs; the sign bits that they take.
-fn quad(dst: &mut [i32], at: usize, word: u64, width: u64, used: u64) -> u64
-    requires { ⌜ (at + 4 ≤ length (now dst)) × (1 ≤ width) × (width ≤ 12) × (used < 60) ⌝ }
-    ensures { λ r. ⌜ now (dst .exit) ≡ storeQuad (now (dst .entry)) at (quadOf 0 word width used) ⌝ }
-    ensures { λ r. ⌜ (r ≡ quadOf 0 word width used .used) × (r ≤ 4) ⌝ }
+// Four values with their signs, and the sign bits that they take.
+pub struct Quad {
+    pub a: i32,
+    pub b: i32,
+    pub c: i32,
+    pub d: i32,
+    pub used: u64,
+}
+
+// Four values with their signs out of a word, of which `used` bits come before the signs.
+fn quad_word(word: u64, width: u64, used: u64) -> Quad
+    requires { ⌜ (1 ≤ width) × (width ≤ 12) × (used < 60) ⌝ }
+    ensures { λ r. ⌜ (r ≡ quadOf 0 word width used) × (r .used ≤ 4) ⌝ }
 {
     let left = less(63, used);
     let down = 64 - width;
@@ -391,11 +398,67 @@ fn quad(dst: &mut [i32], at: usize, word: u64, width: u64, used: u64) -> u64
     let n1 = nonzero(a);
     let n2 = n1 + nonzero(b);
     let n3 = n2 + nonzero(c);
-    dst[at] = with_bit(a, (word >> left) % 2);
-    dst[at + 1] = with_bit(b, (word >> (left - n1)) % 2);
-    dst[at + 2] = with_bit(c, (word >> (left - n2)) % 2);
-    dst[at + 3] = with_bit(d, (word >> (left - n3)) % 2);
-    n3 + nonzero(d)
+    Quad {
+        a: with_bit(a, (word >> left) % 2),
+        b: with_bit(b, (word >> (left - n1)) % 2),
+        c: with_bit(c, (word >> (left - n2)) % 2),
+        d: with_bit(d, (word >> (left - n3)) % 2),
+        used: n3 + nonzero(d),
+    }
+}
+
+// Four values at a place.
+fn put_quad(dst: &mut [i32], at: usize, q: Quad)
+    requires { ⌜ at + 4 ≤ length (now dst) ⌝ }
+    ensures { λ r. ⌜ now (dst .exit) ≡ storeQuad (now (dst .entry)) at q ⌝ }
+{
+    let a = q.a;
+    let b = q.b;
+    let c = q.c;
+    let d = q.d;
+    dst[at] = a;
+    dst[at + 1] = b;
+    dst[at + 2] = c;
+    dst[at + 3] = d;
+}
+
+// 1 for an odd number, else 0.
+fn odd(x: i32) -> i32
+    ensures { λ r. ⌜ r ≡ pos (natAbs x % 2) ⌝ }
+{
+    if x % 2 == 0 { 0 } else { 1 }
+}
+
+// A number where a test holds, else 0.
+fn kept(t: bool, h: i32) -> i32
+    ensures { λ r. ⌜ r ≡ cond t h (pos 0) ⌝ }
+{
+    if t { h } else { 0 }
+}
+
+// A coefficient of selector 0 under the selector.
+fn stretched(x: i32, selector: u64) -> i32
+    requires { ⌜ (0 < selector) × (selector < 16) ⌝ }
+    ensures { λ r. ⌜ r ≡ stretchOf selector x ⌝ }
+{
+    let h = (1i32 << (selector - 1)) - odd(x);
+    let p = kept(0 < x, h);
+    let q = kept(x < 0, h);
+    cut32(((x << selector) as i64) + (p as i64) - (q as i64))
+}
+
+// Four values of selector 0 under the selector.
+fn scaled(q: Quad, selector: u64) -> Quad
+    requires { ⌜ (0 < selector) × (selector < 16) ⌝ }
+    ensures { λ r. ⌜ r ≡ stretchQuad selector q ⌝ }
+{
+    Quad {
+        a: stretched(q.a, selector),
+        b: stretched(q.b, selector),
+        c: stretched(q.c, selector),
+        d: stretched(q.d, selector),
+        used: q.used,
+    }
 }
 
 // Where the groups stopped that were decoded at one go.
@@ -412,26 +475,25 @@ fn edge(packet: &[u8]) -> u64
     less(least(packet.len() as u64, 0x100_0000_0000) * 8, 127)
 }
 
-// Whether a word is there to take a run or a short group from, and the group is not the row's last.
-fn near(width: u64, out: usize, n: usize, place: u64, end: u64) -> bool
-    requires { ⌜ out < 2 ^ 33 ⌝ }
-    ensures { λ r. ⌜ (r ≡ true → Near width out n place end) × (r ≡ false → Near width out n place end → ⊥) ⌝ }
+// Whether a run or a short group may be taken out of a word: before the row's last group, where two words stand whole in the packet.
+fn near(level: i64, out: usize, last: usize, place: u64, end: u64) -> bool
+    ensures { λ r. ⌜ (r ≡ true → Near (levelOf level) out last place end) × (r ≡ false → Near (levelOf level) out last place end → ⊥) ⌝ }
 {
-    if 12 < width {
+    if 12 < level {
         return false;
     }
-    if n <= out + 4 {
+    if last <= out {
         return false;
     }
     place < end
 }
 
-// Whether so many bits are more than a word gives at one go, or more than are left up to a place.
-fn over(place: u64, used: u64, stop: u64) -> bool
+// Whether so many bits are more than a word gives, or more than are left up to a place.
+fn over(place: u64, used: u64, most: u64, stop: u64) -> bool
     requires { ⌜ (place < 2 ^ 40) × (used < 2 ^ 40) ⌝ }
-    ensures { λ r. ⌜ (r ≡ false → (used ≤ 56) × (place + used ≤ stop)) × (r ≡ true → (used ≤ 56) × (place + used ≤ stop) → ⊥) ⌝ }
+    ensures { λ r. ⌜ (r ≡ false → (used ≤ most) × (place + used ≤ stop)) × (r ≡ true → (used ≤ most) × (place + used ≤ stop) → ⊥) ⌝ }
 {
-    if 56 < used {
+    if most < used {
         return true;
     }
     stop < place + used
@@ -450,14 +512,14 @@ fn run_word(word: u64, left: u64) -> Run
     ensures { λ r. ⌜ Runs word left r ⌝ }
 {
     let most = bit_length(left - 1);
-    if top(word, most) == 0 {
+    let z = u64::leading_zeros(word) as u64;
+    if most <= z {
         return Run {
             groups: left,
             width: 0,
             used: most,
         };
     }
-    let z = u64::leading_zeros(word) as u64;
     let v = (word << z) >> (63 - z);
     if left <= v {
         return Run {
@@ -474,16 +536,106 @@ fn run_word(word: u64, left: u64) -> Run
     }
 }
 
-// The width after a group, and the bits of its values and its update, out of a word.
-fn step(word: u64, width: u64) -> Change
+// The width after a group, 0 where it is below 0, and the bits of its values and its update.
+pub struct Step {
+    pub level: i64,
+    pub used: u64,
+}
+
+// What a width update does to the width, by its first five bits: '0' keeps it, '10' and '11' move it up and down by one more than the zeros
+// that follow.
+const MOVES: [i8; 32] = [
+    0,
+    0,
+    0,
+    0,
+    0,
+    0,
+    0,
+    0,
+    0,
+    0,
+    0,
+    0,
+    0,
+    0,
+    0,
+    0,
+    4,
+    3,
+    2,
+    2,
+    1,
+    1,
+    1,
+    1,
+    -4,
+    -3,
+    -2,
+    -2,
+    -1,
+    -1,
+    -1,
+    -1,
+];
+
+// The bits of the update, where they are no more than five; else 64.
+const LENGTHS: [u8; 32] = [
+    1,
+    1,
+    1,
+    1,
+    1,
+    1,
+    1,
+    1,
+    1,
+    1,
+    1,
+    1,
+    1,
+    1,
+    1,
+    1,
+    64,
+    5,
+    4,
+    4,
+    3,
+    3,
+    3,
+    3,
+    64,
+    5,
+    4,
+    4,
+    3,
+    3,
+    3,
+    3,
+];
+
+// The step of a group out of a word: by the tables, or, where its update is longer than theirs, by the zeros in it.
+fn step_word(word: u64, width: u64, moves: &[i8], lengths: &[u8]) -> Step
     requires { ⌜ width ≤ 12 ⌝ }
-    ensures { λ r. ⌜ r ≡ stepOf word width ⌝ }
+    requires { ⌜ Tables (now moves) (now lengths) ⌝ }
+    ensures { λ r. ⌜ (levelOf (r .level) ≡ stepOf word width .width) × (r .used ≡ stepOf word width .used) ⌝ }
     ensures { λ r. ⌜ r .used ≤ 115 ⌝ }
 {
-    let u = changed(word << (4 * width), width);
-    Change {
-        width: u.width,
-        used: 4 * width + u.used,
+    let rest = word << (4 * width);
+    let k = (rest >> 59) as usize;
+    let level = (width as i64) + (moves[k] as i64);
+    let bits = pick(level <= 0, width + 1, lengths[k] as u64);
+    if 16 < bits {
+        let u = changed(rest, width);
+        return Step {
+            level: u.width as i64,
+            used: 4 * width + u.used,
+        };
+    }
+    Step {
+        level,
+        used: 4 * width + bits,
     }
 }
 
@@ -516,87 +668,124 @@ fn arrived(reader: BitReader, place: u64, width: u64, out: usize) -> Next
     }
 }
 
-// Runs and groups out of single words, as long as each stands whole in its word, under selector 0: what the row is under any selector, if
-// the coefficients are stretched by it. The rest of the row is 0 already. Each turn hands the next one its word.
-fn fast(reader: BitReader, packet: &[u8], width: u64, dst: &mut [i32], out: usize) -> Next
+// Runs and groups out of single words, as long as each stands whole in its word, under selector 0. The rest of the row is 0 already. Each
+// turn hands the next one its word.
+fn fast(
+    reader: BitReader,
+    packet: &[u8],
+    width: u64,
+    dst: &mut [i32],
+    out: usize,
+    moves: &[i8],
+    lengths: &[u8],
+) -> Next
     requires { ⌜ Ready (now packet) reader ⌝ }
-    requires { ⌜ (reader .status ≡ 0) × (length (now dst) < 2 ^ 32) × (out < length (now dst)) ⌝ }
-    requires { ⌜ Clean (now dst) out ⌝ }
-    ensures { λ r. ⌜ OnwardAll (now (packet .entry)) (now (dst .entry)) out (stateOf width reader) (now (dst .exit)) (r .out) (stateOf (r .width) (r .reader)) ⌝ }
+    requires { ⌜ (reader .status ≡ 0) × (length (now dst) < 2 ^ 32) × (out < length (now dst)) × (width ≤ 19) ⌝ }
+    requires { ⌜ Clean (now dst) out × Tables (now moves) (now lengths) ⌝ }
+    ensures { λ r. ⌜ Onward (now (packet .entry)) 0 (now (dst .entry)) out (stateOf width reader) (now (dst .exit)) (r .out) (stateOf (r .width) (r .reader)) ⌝ }
     ensures { λ r. ⌜ Done (now (packet .entry)) (length (now (dst .entry))) out width (r .out) (r .width) (r .reader) ⌝ }
 {
     let n = dst.len();
+    let last = less(n as u64, 4) as usize;
     let end = edge(packet);
     let stop = reader.place + reader.remaining;
+    let room = less(stop, 4);
     let mut place = reader.place;
     let mut word = window(packet, place);
-    let mut w = width;
+    let mut level = width as i64;
     let mut i = out;
-    while near(w, i, n, place, end) {
-        if w == 0 {
+    while near(level, i, last, place, end) {
+        if level <= 0 {
             let h = run_word(word, ((n - i + 3) / 4) as u64);
-            if over(place, h.used, stop) {
-                return arrived(reader, place, w, i);
+            if over(place, h.used, 56, stop) {
+                return arrived(reader, place, above(level), i);
             }
             i = i + 4 * (h.groups as usize);
-            w = h.width;
+            level = h.width as i64;
             word = after(packet, place, h.used);
             place = place + h.used;
         } else {
-            let u = step(word, w);
-            if over(place, u.used + 4, stop) {
+            let w = level as u64;
+            let u = step_word(word, w, moves, lengths);
+            if over(place, u.used, 52, room) {
                 return arrived(reader, place, w, i);
             }
-            let taken = u.used + quad(dst, i, word, w, u.used);
-            w = u.width;
+            let q = quad_word(word, w, u.used);
+            put_quad(dst, i, q);
+            level = u.level;
             i += 4;
+            let taken = u.used + q.used;
             word = after(packet, place, taken);
             place = place + taken;
         }
     }
+    let w = above(level);
     if ends(w, i, n, place, stop) {
-        let taken = 4 * w + quad(dst, i, word, w, 4 * w);
-        return arrived(reader, place + taken, w, i + 4);
+        let q = quad_word(word, w, 4 * w);
+        put_quad(dst, i, q);
+        return arrived(reader, place + 4 * w + q.used, w, i + 4);
     }
     arrived(reader, place, w, i)
 }
 
-// 1 for an odd number, else 0.
-fn odd(x: i32) -> i32
-    ensures { λ r. ⌜ r ≡ pos (natAbs x % 2) ⌝ }
+// The same under a selector above 0.
+fn fast_scaled(
+    reader: BitReader,
+    packet: &[u8],
+    width: u64,
+    selector: u64,
+    dst: &mut [i32],
+    out: usize,
+    moves: &[i8],
+    lengths: &[u8],
+) -> Next
+    requires { ⌜ Ready (now packet) reader ⌝ }
+    requires { ⌜ (reader .status ≡ 0) × (length (now dst) < 2 ^ 32) × (out < length (now dst)) × (width ≤ 19) × (0 < selector) × (selector < 16) ⌝ }
+    requires { ⌜ Clean (now dst) out × Tables (now moves) (now lengths) ⌝ }
+    ensures { λ r. ⌜ Onward (now (packet .entry)) selector (now (dst .entry)) out (stateOf width reader) (now (dst .exit)) (r .out) (stateOf (r .width) (r .reader)) ⌝ }
+    ensures { λ r. ⌜ Done (now (packet .entry)) (length (now (dst .entry))) out width (r .out) (r .width) (r .reader) ⌝ }
 {
-    if x % 2 == 0 { 0 } else { 1 }
-}
-
-// A number where a test holds, else 0.
-fn kept(t: bool, h: i32) -> i32
-    ensures { λ r. ⌜ r ≡ cond t h (pos 0) ⌝ }
-{
-    if t { h } else { 0 }
-}
-
-// A coefficient of selector 0 under the selector.
-fn stretched(x: i32, selector: u64) -> i32
-    requires { ⌜ (0 < selector) × (selector < 16) ⌝ }
-    ensures { λ r. ⌜ r ≡ stretchOf selector x ⌝ }
-{
-    let h = (1i32 << (selector - 1)) - odd(x);
-    let p = kept(0 < x, h);
-    let q = kept(x < 0, h);
-    cut32(((x << selector) as i64) + (p as i64) - (q as i64))
-}
-
-// The coefficients from one element up to another under the selector, as far as the slice goes.
-fn stretch(dst: &mut [i32], from: usize, end: usize, selector: u64)
-    requires { ⌜ (0 < selector) × (selector < 16) ⌝ }
-    ensures { λ r. ⌜ now (dst .exit) ≡ within (stretchOf selector) (now (dst .entry)) from end ⌝ }
-{
-    let stop = lower(end, dst.len());
-    let mut i = from;
-    while i < stop {
-        dst[i] = stretched(dst[i], selector);
-        i += 1;
+    let n = dst.len();
+    let last = less(n as u64, 4) as usize;
+    let end = edge(packet);
+    let stop = reader.place + reader.remaining;
+    let room = less(stop, 4);
+    let mut place = reader.place;
+    let mut word = window(packet, place);
+    let mut level = width as i64;
+    let mut i = out;
+    while near(level, i, last, place, end) {
+        if level <= 0 {
+            let h = run_word(word, ((n - i + 3) / 4) as u64);
+            if over(place, h.used, 56, stop) {
+                return arrived(reader, place, above(level), i);
+            }
+            i = i + 4 * (h.groups as usize);
+            level = h.width as i64;
+            word = after(packet, place, h.used);
+            place = place + h.used;
+        } else {
+            let w = level as u64;
+            let u = step_word(word, w, moves, lengths);
+            if over(place, u.used, 52, room) {
+                return arrived(reader, place, w, i);
+            }
+            let q = quad_word(word, w, u.used);
+            put_quad(dst, i, scaled(q, selector));
+            level = u.level;
+            i += 4;
+            let taken = u.used + q.used;
+            word = after(packet, place, taken);
+            place = place + taken;
+        }
     }
+    let w = above(level);
+    if ends(w, i, n, place, stop) {
+        let q = quad_word(word, w, 4 * w);
+        put_quad(dst, i, scaled(q, selector));
+        return arrived(reader, place + 4 * w + q.used, w, i + 4);
+    }
+    arrived(reader, place, w, i)
 }
 
 // Runs and groups out of single words, under any selector.
@@ -607,18 +796,19 @@ fn quick(
     selector: u64,
     dst: &mut [i32],
     out: usize,
+    moves: &[i8],
+    lengths: &[u8],
 ) -> Next
     requires { ⌜ Ready (now packet) reader ⌝ }
-    requires { ⌜ (reader .status ≡ 0) × (length (now dst) < 2 ^ 32) × (out < length (now dst)) × (selector < 16) ⌝ }
-    requires { ⌜ Clean (now dst) out ⌝ }
+    requires { ⌜ (reader .status ≡ 0) × (length (now dst) < 2 ^ 32) × (out < length (now dst)) × (width ≤ 19) × (selector < 16) ⌝ }
+    requires { ⌜ Clean (now dst) out × Tables (now moves) (now lengths) ⌝ }
     ensures { λ r. ⌜ Onward (now (packet .entry)) selector (now (dst .entry)) out (stateOf width reader) (now (dst .exit)) (r .out) (stateOf (r .width) (r .reader)) ⌝ }
     ensures { λ r. ⌜ Done (now (packet .entry)) (length (now (dst .entry))) out width (r .out) (r .width) (r .reader) ⌝ }
 {
-    let far = fast(reader, packet, width, dst, out);
-    if selector != 0 {
-        stretch(dst, out, far.out, selector);
+    if selector == 0 {
+        return fast(reader, packet, width, dst, out, moves, lengths);
     }
-    far
+    fast_scaled(reader, packet, width, selector, dst, out, moves, lengths)
 }
 
 // One run or group as it is read. The rest of the row is 0 already.
@@ -679,6 +869,8 @@ pub fn decode_component(
     ensures { λ r. ⌜ now (dst .exit) ≡ rowOf (now (packet .entry)) selector (length (now (dst .entry))) (asReader reader) .values ⌝ }
     ensures { λ r. ⌜ Ready (now (packet .entry)) r ⌝ }
 {
+    let moves = MOVES;
+    let lengths = LENGTHS;
     let n = dst.len();
     clear(dst, 0, n);
     let first = reader.width_start(packet);
@@ -689,7 +881,7 @@ pub fn decode_component(
         if halts(r, width) {
             return stop(r);
         }
-        let far = quick(r, packet, width, selector, dst, out);
+        let far = quick(r, packet, width, selector, dst, out, &moves, &lengths);
         r = far.reader;
         width = far.width;
         out = far.out;

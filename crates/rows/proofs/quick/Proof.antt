@@ -2,31 +2,26 @@
 use borrow.Author.Needs.{needs}
 use native.Mathlib.Omega.{arith}
 use mathlib.Core.Path.{_≡_}
-use Rattle.rows.proofs.StretchLaws.{stretch-plain}
-use Rattle.rows.proofs.Within.{within-same}
 use Rattle.rows.proofs.quick.Statement.{statement}
 use Rattle.rows.proofs.quick.Tie as tie
 
 returns : tie.Need-returns
 returns c =
-    let a = c .before .before .before .before .before .before .before .before .args in
-    let far = c .before .before .before .before .before .fast in
-    (rw (c .before .stretch .ensures) (far .ensures .0 (a .selector) (omega arith)), far .ensures .1)
+    let zero : c .before .before .before .before .before .before .args .selector ≡ 0 = c .before .before .before .if1 .taken in
+    rw zero (c .before .fast .ensures)
 
-returns-2 : tie.Need-returns-2
-returns-2 c =
-    let a = c .before .before .before .before .before .args in
-    let far = c .before .before .fast in
-    let zero : a .selector ≡ 0 = c .if1 .left in
-    (rw zero (rw (within-same _ (far .last .1 .1 .1 .0) (a .out) (far .result .out) stretch-plain) at (far .ensures .0 0 (omega arith))), far .ensures .1)
+fast-scaled-requires : tie.Need-fast-scaled-requires
+fast-scaled-requires c κs =
+    let pre = c .before .before .before .before .pre in
+    (pre .0, ((omega arith, omega arith, omega arith, omega arith, omega arith, omega arith), pre .1 .1))
 
 pub quick-spec : {M : Type 1} → statement M
 quick-spec =
     tie.close
     (tie.spec
     (λ c κs. search needs)
-    (λ c κs. search needs)
     (λ c. search needs)
     returns
+    fast-scaled-requires
     (λ c. search needs)
-    returns-2)
+    (λ c. search needs))

@@ -1,7 +1,6 @@
--- `quad` meets its contract. Assumes nothing.
+-- `quad_word` meets its contract. Assumes nothing.
 use borrow.Author.Needs.{needs}
 use native.Mathlib.Omega.{arith}
-use lib.ListN.{length-set}
 use mathlib.Core.Path.{_∙_}
 use Prim.Native.Nat.{_*_, _%_, _^_}
 use mir.Syntax.{w32}
@@ -9,8 +8,8 @@ use mir.Val.{SFits}
 use mir.ValLaws.{toZ-ofZ}
 use Rattle.rows.specs.Word.{splitOf, quadOf}
 use Rattle.rows.proofs.WordLaws.{scaled-zero, front-lt}
-use Rattle.rows.proofs.quad.Statement.{statement}
-use Rattle.rows.proofs.quad.Tie as tie
+use Rattle.rows.proofs.quad_word.Statement.{statement}
+use Rattle.rows.proofs.quad_word.Tie as tie
 
 with-bit-requires : tie.Need-with-bit-requires
 with-bit-requires c κs = let a = c .before .before .before .before .args in front-lt (a .word) (a .width) (omega arith) (omega arith)
@@ -23,15 +22,6 @@ with-bit-requires-3 c κs = let a = c .before .before .before .before .before .b
 
 with-bit-requires-4 : tie.Need-with-bit-requires-4
 with-bit-requires-4 c κs = let a = c .before .before .before .before .before .before .before .args in front-lt (a .word * 2 ^ a .width % 2 ^ 64 * 2 ^ a .width % 2 ^ 64 * 2 ^ a .width % 2 ^ 64) (a .width) (omega arith) (omega arith)
-
-slice-set-from-dst-2 : tie.Need-slice-set-from-dst-2
-slice-set-from-dst-2 c = simp length-set (omega arith)
-
-slice-set-from-dst-3 : tie.Need-slice-set-from-dst-3
-slice-set-from-dst-3 c = simp length-set (omega arith)
-
-slice-set-from-dst-4 : tie.Need-slice-set-from-dst-4
-slice-set-from-dst-4 c = simp length-set (omega arith)
 
 returns : tie.Need-returns
 unfolding quadOf splitOf
@@ -52,11 +42,11 @@ returns c =
         c .before .before .before .before .before .before .before .before .less .ensures,
         scaled-zero,
       ),
-      (simp (c .before .before .before .before .before .before .before .nonzero .ensures .0, c .before .before .before .before .before .before .nonzero2 .ensures .0, c .before .before .before .before .before .nonzero3 .ensures .0, c .nonzero4 .ensures .0), omega (arith, c .before .before .before .before .before .before .before .nonzero .ensures .1, c .before .before .before .before .before .before .nonzero2 .ensures .1, c .before .before .before .before .before .nonzero3 .ensures .1, c .nonzero4 .ensures .1)),
+      omega (arith, c .before .before .before .before .before .before .before .nonzero .ensures .1, c .before .before .before .before .before .before .nonzero2 .ensures .1, c .before .before .before .before .before .nonzero3 .ensures .1, c .nonzero4 .ensures .1),
     )
 
-pub quad-spec : {M : Type 1} → statement M
-quad-spec =
+pub quad-word-spec : {M : Type 1} → statement M
+quad-word-spec =
     tie.close
     (tie.spec
     (λ c κs. search needs)
@@ -77,25 +67,13 @@ quad-spec =
     with-bit-requires
     (λ c. search needs)
     (λ c. search needs)
-    (λ c. search needs)
-    (λ c. search needs)
     with-bit-requires-2
-    (λ c. search needs)
-    (λ c. search needs)
-    slice-set-from-dst-2
     (λ c. search needs)
     (λ c. search needs)
     with-bit-requires-3
     (λ c. search needs)
     (λ c. search needs)
-    slice-set-from-dst-3
-    (λ c. search needs)
-    (λ c. search needs)
     with-bit-requires-4
-    (λ c. search needs)
-    (λ c. search needs)
-    slice-set-from-dst-4
     (λ c κs. search needs)
-    (λ c. search needs)
     (λ c. search needs)
     returns)
