@@ -13,13 +13,11 @@ use Rattle.rows.specs.declared.Next.{Next}
 use Rattle.rows.specs.declared.Quad.{Quad}
 use Rattle.rows.specs.declared.Run.{Run}
 use Rattle.format.specs.Coefficients.{Part, RunAnswer, groupOf, widthNext, zerosOf}
-use Rattle.rows.specs.Word.{changeOf, stepOf, scaledOf, signedOf, splitOf, quadOf, storeQuad, Ends, Runs}
-use Rattle.rows.specs.Stretch.{stretchOf, stretchQuad}
+use Rattle.rows.specs.Word.{changeOf, stepOf, quadOf, storeQuad, Ends, Runs}
 use Rattle.rows.specs.Course.{Going, leftOf, Onward, movedTo, Done, Clean}
 use Rattle.rows.proofs.Row.{going-group, going-run}
 use Rattle.rows.proofs.Filled.{clean-filled, clean-four}
-use Rattle.rows.proofs.WordLaws.{scaled-zero, front-lt, group-word, next-last, next-more}
-use Rattle.rows.proofs.StretchLaws.{stretch-signed}
+use Rattle.rows.proofs.WordLaws.{group-word, next-last, next-more}
 
 -- a reader that has not moved
 pub moved-none : (r : Reader) → movedTo r (r .place) ≡ r
@@ -48,22 +46,6 @@ module _ (s : List ℕ) (sel : ℕ) (d : List ℤ) (i : ℕ) (reader : Reader) (
       rw left at
       (rw (← ed) at
       (going-group s sel whole d₀ d i g (record { value = w; reader = movedTo reader place }) now (λ z. omega arith) (q .a) (q .b) (q .c) (q .d) w′ (movedTo reader (place + (n + k))) answer go (omega arith) (λ z. omega arith)))
-
--- a quad of selector 0 under another selector
-pub stretch-quad : (sel word w n : ℕ) → sel < 16 → word < 2 ^ 64 → w ≤ 12 → stretchQuad sel (quadOf 0 word w n) ≡ quadOf sel word w n
-unfolding quadOf splitOf
-stretch-quad sel word w n below fits most =
-    let b = word * 2 ^ w % 2 ^ 64 in
-    let c = b * 2 ^ w % 2 ^ 64 in
-    let d = c * 2 ^ w % 2 ^ 64 in
-    let f : (u : ℕ) → u < 2 ^ 12 → (bit : ℕ) → stretchOf sel (signedOf u bit) ≡ signedOf (scaledOf u sel) bit = λ u small bit. stretch-signed u sel bit small below in
-    simp (
-      scaled-zero,
-      f (word / 2 ^ (64 - w)) (front-lt word w fits most),
-      f (b / 2 ^ (64 - w)) (front-lt b w (omega arith) most),
-      f (c / 2 ^ (64 - w)) (front-lt c w (omega arith) most),
-      f (d / 2 ^ (64 - w)) (front-lt d w (omega arith) most),
-    )
 
 -- a word that holds the bits from a place on
 abbrev pub Loaded : List ℕ → ℕ → ℕ → Type 0

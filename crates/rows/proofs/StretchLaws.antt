@@ -2,7 +2,7 @@
 use borrow.Author.Tests.{eqb-true, eqb-false, not-true, not-false, eq-eqb, ne-eqb, lt-ltb, le-ltb}
 use mathlib.Core.Path.{_≡_, refl, sym, ap, _∙_}
 use mathlib.Core.Bool.{Bool, true, false, not, cond}
-use Prim.Native.Nat.{ℕ, zero, suc, _+_, _-_, _*_, _%_, _^_, _≤_, _<_}
+use Prim.Native.Nat.{ℕ, zero, suc, _+_, _-_, _*_, _/_, _%_, _^_, _≤_, _<_}
 use native.Mathlib.Nat.{pow-suc}
 use native.Mathlib.Omega.{arith}
 use lib.Dec.{eqb}
@@ -14,9 +14,9 @@ use mir.Val.{SFits, toZ, ofZ}
 use mir.ValLaws.{toZ-pos}
 use Rattle.wrap32.specs.Cut.{low, cut, wrap, signOf}
 use Rattle.wrap32.proofs.Laws.{of-cond, cut-id, cut-add-l, low-neg32, less-some, odd-bit}
-use Rattle.rows.specs.Word.{scaledOf, signedOf}
-use Rattle.rows.specs.Stretch.{stretchOf}
-use Rattle.rows.proofs.WordLaws.{short, scaled-zero, scaled-none, scaled-some, signed-none, signed-fits}
+use Rattle.rows.specs.Word.{scaledOf, signedOf, splitOf, quadOf}
+use Rattle.rows.specs.Stretch.{stretchOf, stretchQuad}
+use Rattle.rows.proofs.WordLaws.{short, front-lt, scaled-zero, scaled-none, scaled-some, signed-none, signed-fits}
 
 pub stretch-plain : (x : ℤ) → stretchOf 0 x ≡ x
 unfolding stretchOf
@@ -60,6 +60,22 @@ stretch-signed (suc n) zero bit small h = stretch-plain (signedOf (suc n) bit) �
 stretch-signed (suc n) (suc k) bit small h =
     let v = scaledOf (suc n) (suc k) in
     stretch-nonzero n (suc k) (omega arith) bit ∙ cut-id w32 (signedOf v bit) (signed-fits v bit (short (suc n) (suc k) small h .bound))
+
+-- four of them
+pub stretch-quad : (sel word w n : ℕ) → sel < 16 → word < 2 ^ 64 → w ≤ 12 → stretchQuad sel (quadOf 0 word w n) ≡ quadOf sel word w n
+unfolding quadOf splitOf
+stretch-quad sel word w n below fits most =
+    let b = word * 2 ^ w % 2 ^ 64 in
+    let c = b * 2 ^ w % 2 ^ 64 in
+    let d = c * 2 ^ w % 2 ^ 64 in
+    let f : (u : ℕ) → u < 2 ^ 12 → (bit : ℕ) → stretchOf sel (signedOf u bit) ≡ signedOf (scaledOf u sel) bit = λ u small bit. stretch-signed u sel bit small below in
+    simp (
+      scaled-zero,
+      f (word / 2 ^ (64 - w)) (front-lt word w fits most),
+      f (b / 2 ^ (64 - w)) (front-lt b w (omega arith) most),
+      f (c / 2 ^ (64 - w)) (front-lt c w (omega arith) most),
+      f (d / 2 ^ (64 - w)) (front-lt d w (omega arith) most),
+    )
 
 -- ---- the same as the code has it
 -- the remainder of 2

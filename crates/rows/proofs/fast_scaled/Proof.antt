@@ -13,8 +13,9 @@ use Rattle.rows.specs.declared.Quad.{Quad}
 use Rattle.rows.specs.Stretch.{stretchQuad}
 use Rattle.rows.specs.Course.{movedTo}
 use Rattle.rows.specs.Word.{levelOf, storeQuad}
+use Rattle.rows.proofs.StretchLaws.{stretch-quad}
 use Rattle.rows.proofs.LevelLaws.{level-none, level-some, level-wide}
-use Rattle.rows.proofs.Steps.{Loaded, Turn, turn-at, turn-first, turn-group, turn-end, turn-run, turn-last, stretch-quad}
+use Rattle.rows.proofs.Steps.{Loaded, Turn, turn-at, turn-first, turn-group, turn-end, turn-run, turn-last}
 use Rattle.rows.proofs.fast_scaled.Statement.{statement}
 use Rattle.rows.proofs.fast_scaled.Tie as tie
 
