@@ -1,4 +1,4 @@
--- The turns of the loop that takes groups out of single words. Assumes nothing.
+-- The turns of the loops that take runs and groups out of single words. Assumes nothing.
 use mathlib.Core.Path.{_≡_, refl, sym, ap, subst, _∙_}
 use mathlib.Core.List.{List, [], _∷_}
 use Prim.Native.Nat.{ℕ, _+_, _-_, _*_, _/_, _%_, _^_, _≤_, _<_}

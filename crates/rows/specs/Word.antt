@@ -113,7 +113,7 @@ quadOf sel word w used = withSigns sel (splitOf word w) word (63 - used)
 abbrev pub storeQuad : List ℤ → ℕ → Quad → List ℤ
 storeQuad l i q = set (set (set (set l i (q .a)) (i + 1) (q .b)) (i + 2) (q .c)) (i + 3) (q .d)
 
--- what the loop of runs and groups asks of the next one
+-- what the loops of runs and groups ask of the next one
 pub record Near (w out last place end : ℕ) : Type 0 where
   pub short : w ≤ 12
   pub more : out < last
