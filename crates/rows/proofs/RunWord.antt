@@ -4,15 +4,15 @@ use mathlib.Core.Path.{_≡_, sym, ap, _∙_}
 use mathlib.Core.Logic.{⊎-elim}
 use mathlib.Core.List.{List}
 use Prim.Native.Nat.{ℕ, _+_, _-_, _*_, _/_, _%_, _^_, _≤_, _<_, min}
-use native.Mathlib.Nat.{add-zero, sub-zero, div-eq-of-lt, lt-of-lt-of-le}
+use native.Mathlib.Nat.{add-zero, sub-zero}
 use native.Mathlib.Omega.{arith}
 use lib.Count.{leadingZeros, leading-length}
 use lib.Dec.{lit≤}
-use lib.Pow.{pow-mono, pow-pos}
+use lib.Pow.{pow-pos}
 use Rattle.format.specs.Bits.{bitsAt, bitAt}
 use Rattle.format.specs.Reader.{Reader, Taken, skipped, findOf, runOf, unaryOf, atMost, bitLength}
 use Rattle.format.specs.Coefficients.{widthAfter, zerosOf}
-use Rattle.format.proofs.BitLaws.{le-or-lt, bits-add, prefix-of, middle-of, lead-some, lead-one}
+use Rattle.format.proofs.BitLaws.{le-or-lt, bits-add, middle-of, lead-some, lead-one}
 use Rattle.format.proofs.WordReads.{read-within, unary-within, find-within, find-nothing}
 use Rattle.format.proofs.RunLaws.{exponent-lt, power-below, run-one, run-none, run-part}
 
@@ -30,13 +30,6 @@ length-none x e =
     let none : l .0 < 1 = exponent-lt (l .0) 1 (omega (arith, l .3)) in
     omega (arith, l .1, none)
 
--- the first k bits of a word that starts with k zeros or more
-pub lead-none : (word k : ℕ) → word < 2 ^ 64 → k ≤ leadingZeros 64 word → word / 2 ^ (64 - k) ≡ 0
-lead-none word k fits zeros =
-    let l = leading-length 64 word fits in
-    let shorter : l .0 ≤ 64 - k = omega (arith, l .1) in
-    div-eq-of-lt (lt-of-lt-of-le (l .2) (pow-mono shorter))
-
 module _ (s : List ℕ) (r : Reader) (word g : ℕ) (fits : word < 2 ^ 64) (holds : word / 2 ^ 7 ≡ bitsAt s (r .place) 57) (some : 0 < g) (below : g < 2 ^ 31) (go : r .status ≡ 0) where
   -- a run, and the width after it
   zeros-by : (run : Taken) → run ≡ runOf s r g → (next : Taken) → next ≡ widthAfter s (g - run .value) (run .reader)
@@ -53,12 +46,12 @@ module _ (s : List ℕ) (r : Reader) (word g : ℕ) (fits : word < 2 ^ 64) (hold
   after-some left t h = simp (ne-eqb left 0 (λ e. omega arith))
 
   -- as many zeros as there can be
-  pub run-all : word / 2 ^ (64 - bitLength (g - 1)) ≡ 0 → bitLength (g - 1) ≤ r .remaining
+  pub run-all : bitLength (g - 1) ≤ leadingZeros 64 word → bitLength (g - 1) ≤ r .remaining
       → zerosOf s g r ≡ record { groups = g; width = 0; reader = skipped r (bitLength (g - 1)) }
-  run-all none enough =
+  run-all lead enough =
       let k = bitLength (g - 1) in
       let short : k ≤ 31 = length-le (g - 1) (omega arith) in
-      let zero : bitsAt s (r .place) k ≡ 0 = sym (prefix-of s (r .place) word k 57 holds (omega arith) (lit≤ tt)) ∙ none in
+      let zero : bitsAt s (r .place) k ≡ 0 = lead-some s (r .place) word k 57 fits holds (lit≤ tt) lead (omega arith) in
       let run : record { value = g; reader = skipped r k } ≡ runOf s r g =
       ⊎-elim
       (λ (one : g ≤ 1).

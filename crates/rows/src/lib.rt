@@ -698,7 +698,7 @@ fn fast(
         if level <= 0 {
             let h = run_word(word, ((n - i + 3) / 4) as u64);
             if over(place, h.used, 56, stop) {
-                return arrived(reader, place, above(level), i);
+                return arrived(reader, place, 0, i);
             }
             i = i + 4 * (h.groups as usize);
             level = h.width as i64;
@@ -758,7 +758,7 @@ fn fast_scaled(
         if level <= 0 {
             let h = run_word(word, ((n - i + 3) / 4) as u64);
             if over(place, h.used, 56, stop) {
-                return arrived(reader, place, above(level), i);
+                return arrived(reader, place, 0, i);
             }
             i = i + 4 * (h.groups as usize);
             level = h.width as i64;

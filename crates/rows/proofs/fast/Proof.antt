@@ -51,18 +51,18 @@ over-requires c κs = omega (arith, c .before .before .before .before .loop .inv
 
 arrived-requires : tie.Need-arrived-requires Inv-loop μ-loop
 arrived-requires c κs =
-    let t = c .before .before .before .before .before .before .before .loop .inv .0 in
-    (t .from, t .to, c .before .before .before .before .before .before .before .before .before .before .before .before .before .before .before .pre .0 .room)
+    let t = c .before .before .before .before .before .before .loop .inv .0 in
+    (t .from, t .to, c .before .before .before .before .before .before .before .before .before .before .before .before .before .before .pre .0 .room)
 
 same-length : tie.Need-same-length Inv-loop μ-loop
-same-length c = c .before .before .before .before .before .before .before .before .loop .inv .0 .on .same
+same-length c = c .before .before .before .before .before .before .before .loop .inv .0 .on .same
 
 returns : tie.Need-returns Inv-loop μ-loop
 returns c =
-    let a = c .before .before .before .before .before .before .before .before .before .before .before .before .before .before .before .before .args in
-    let l = c .before .before .before .before .before .before .before .before .loop in
+    let a = c .before .before .before .before .before .before .before .before .before .before .before .before .before .before .before .args in
+    let l = c .before .before .before .before .before .before .before .loop in
     let e = c .arrived .ensures in
-    turn-last (a .packet .now) 0 (omega arith) (a .dst .now) (a .out) (a .width) (a .reader) (c .before .before .before .before .before .before .before .before .before .before .before .before .before .before .before .before .pre .0) (c .before .before .before .before .before .before .before .before .before .before .before .before .before .before .before .before .pre .1 .0 .0) (l .dst) (l .place) (levelOf (toZ w64 (l .level))) (l .i) (l .inv .0) (c .arrived .result) (e .0, e .1 ∙ c .before .above .ensures, e .2)
+    turn-last (a .packet .now) 0 (omega arith) (a .dst .now) (a .out) (a .width) (a .reader) (c .before .before .before .before .before .before .before .before .before .before .before .before .before .before .before .pre .0) (c .before .before .before .before .before .before .before .before .before .before .before .before .before .before .before .pre .1 .0 .0) (l .dst) (l .place) (levelOf (toZ w64 (l .level))) (l .i) (l .inv .0) (c .arrived .result) (e .0, e .1 ∙ sym (level-none (toZ w64 (c .before .before .before .before .before .before .before .loop .level)) (c .before .before .before .before .if2 .taken)), e .2)
 
 mul-i : tie.Need-mul-i Inv-loop μ-loop
 mul-i c = omega (arith, c .before .before .run-word .ensures .most, c .before .before .before .before .before .before .before .before .before .before .before .before .before .before .pre .1 .0)
@@ -177,12 +177,12 @@ add-arrived-3 : tie.Need-add-arrived-3 Inv-loop μ-loop
 add-arrived-3 c = omega (arith, c .before .before .before .before .before .before .before .before .before .before .loop .inv .0 .inside, c .before .before .before .before .before .before .before .before .before .before .before .before .before .before .before .before .before .before .pre .1 .0)
 
 -- the turn of the last group
-ended : (c : tie.After-dst2 Inv-loop μ-loop) → Turn (c .before .before .before .before .before .before .before .before .before .before .before .before .before .before .before .before .before .args .packet .now) 0 (c .before .before .before .before .before .before .before .before .before .before .before .before .before .before .before .before .before .args .dst .now) (c .before .before .before .before .before .before .before .before .before .before .before .before .before .before .before .before .before .args .out) (c .before .before .before .before .before .before .before .before .before .before .before .before .before .before .before .before .before .args .width) (c .before .before .before .before .before .before .before .before .before .before .before .before .before .before .before .before .before .args .reader) (c .before .put-quad2 .last .0) (c .before .before .before .before .before .before .before .before .before .loop .place + (4 * c .before .before .before .before .before .before .above2 .result + c .before .before .before .quad-word2 .result .used)) (c .before .before .before .before .before .before .above2 .result) (c .before .before .before .before .before .before .before .before .before .loop .i + 4)
+ended : (c : tie.After-dst2 Inv-loop μ-loop) → Turn (c .before .before .before .before .before .before .before .before .before .before .before .before .before .before .before .before .before .args .packet .now) 0 (c .before .before .before .before .before .before .before .before .before .before .before .before .before .before .before .before .before .args .dst .now) (c .before .before .before .before .before .before .before .before .before .before .before .before .before .before .before .before .before .args .out) (c .before .before .before .before .before .before .before .before .before .before .before .before .before .before .before .before .before .args .width) (c .before .before .before .before .before .before .before .before .before .before .before .before .before .before .before .before .before .args .reader) (c .before .put-quad2 .last .0) (c .before .before .before .before .before .before .before .before .before .loop .place + (4 * c .before .before .before .before .before .before .above .result + c .before .before .before .quad-word2 .result .used)) (c .before .before .before .before .before .before .above .result) (c .before .before .before .before .before .before .before .before .before .loop .i + 4)
 ended c =
     let a = c .before .before .before .before .before .before .before .before .before .before .before .before .before .before .before .before .before .args in
     let l = c .before .before .before .before .before .before .before .before .before .loop in
-    let w = c .before .before .before .before .before .before .above2 .result in
-    turn-end (a .packet .now) 0 (omega arith) (a .dst .now) (a .out) (a .width) (a .reader) (c .before .before .before .before .before .before .before .before .before .before .before .before .before .before .before .before .before .pre .0) (c .before .before .before .before .before .before .before .before .before .before .before .before .before .before .before .before .before .pre .1 .0 .0) (l .dst) (l .place) w (l .i) (l .word) (turn-at (sym (c .before .before .before .before .before .before .above2 .ensures)) (l .inv .0)) (l .inv .1) (c .before .before .before .before .before .ends .ensures .0 (c .before .before .before .before .if5 .taken)) (c .before .put-quad2 .last .0) (c .before .before .before .quad-word2 .result .used) (c .before .put-quad2 .ensures ∙ ap (storeQuad (l .dst) (l .i)) (c .before .before .before .quad-word2 .ensures .0)) (ap (λ (t : Quad). t .used) (c .before .before .before .quad-word2 .ensures .0)) (c .before .before .before .quad-word2 .ensures .1)
+    let w = c .before .before .before .before .before .before .above .result in
+    turn-end (a .packet .now) 0 (omega arith) (a .dst .now) (a .out) (a .width) (a .reader) (c .before .before .before .before .before .before .before .before .before .before .before .before .before .before .before .before .before .pre .0) (c .before .before .before .before .before .before .before .before .before .before .before .before .before .before .before .before .before .pre .1 .0 .0) (l .dst) (l .place) w (l .i) (l .word) (turn-at (sym (c .before .before .before .before .before .before .above .ensures)) (l .inv .0)) (l .inv .1) (c .before .before .before .before .before .ends .ensures .0 (c .before .before .before .before .if5 .taken)) (c .before .put-quad2 .last .0) (c .before .before .before .quad-word2 .result .used) (c .before .put-quad2 .ensures ∙ ap (storeQuad (l .dst) (l .i)) (c .before .before .before .quad-word2 .ensures .0)) (ap (λ (t : Quad). t .used) (c .before .before .before .quad-word2 .ensures .0)) (c .before .before .before .quad-word2 .ensures .1)
 
 arrived-requires-3 : tie.Need-arrived-requires-3 Inv-loop μ-loop
 arrived-requires-3 c κs =
@@ -196,7 +196,7 @@ returns-3 : tie.Need-returns-3 Inv-loop μ-loop
 returns-3 c =
     let a = c .before .before .before .before .before .before .before .before .before .before .before .before .before .before .before .before .before .before .before .args in
     let l = c .before .before .before .before .before .before .before .before .before .before .before .loop in
-    let w = c .before .before .before .before .before .before .before .before .above2 .result in
+    let w = c .before .before .before .before .before .before .before .before .above .result in
     let e = c .arrived3 .ensures in
     let k = c .before .before .before .before .before .quad-word2 .result .used in
     let at : l .place + 4 * w + k ≡ l .place + (4 * w + k) = omega arith in
@@ -215,7 +215,7 @@ returns-4 c =
     let a = c .before .before .before .before .before .before .before .before .before .before .before .before .before .before .args in
     let l = c .before .before .before .before .before .before .loop in
     let e = c .arrived4 .ensures in
-    turn-last (a .packet .now) 0 (omega arith) (a .dst .now) (a .out) (a .width) (a .reader) (c .before .before .before .before .before .before .before .before .before .before .before .before .before .before .pre .0) (c .before .before .before .before .before .before .before .before .before .before .before .before .before .before .pre .1 .0 .0) (l .dst) (l .place) (levelOf (toZ w64 (l .level))) (l .i) (l .inv .0) (c .arrived4 .result) (e .0, e .1 ∙ c .before .before .before .above2 .ensures, e .2)
+    turn-last (a .packet .now) 0 (omega arith) (a .dst .now) (a .out) (a .width) (a .reader) (c .before .before .before .before .before .before .before .before .before .before .before .before .before .before .pre .0) (c .before .before .before .before .before .before .before .before .before .before .before .before .before .before .pre .1 .0 .0) (l .dst) (l .place) (levelOf (toZ w64 (l .level))) (l .i) (l .inv .0) (c .arrived4 .result) (e .0, e .1 ∙ c .before .before .before .above .ensures, e .2)
 
 pub fast-spec : {M : Type 1} → statement M
 fast-spec =
@@ -235,7 +235,6 @@ fast-spec =
     add-run-word
     run-word-requires
     over-requires
-    (λ c κs. search needs)
     arrived-requires
     same-length
     returns

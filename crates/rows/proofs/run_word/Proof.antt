@@ -4,8 +4,7 @@ use native.Mathlib.Omega.{arith}
 use mathlib.Core.Path.{refl}
 use Prim.Native.Nat.{_+_, _-_, _*_, _%_, _^_, _≤_}
 use lib.Count.{leadingZeros, leading-le}
-use Rattle.format.specs.Reader.{bitLength}
-use Rattle.rows.proofs.RunWord.{length-le, lead-none, run-all, run-end, run-more}
+use Rattle.rows.proofs.RunWord.{length-le, run-all, run-end, run-more}
 use Rattle.rows.proofs.run_word.Statement.{statement}
 use Rattle.rows.proofs.run_word.Tie as tie
 
@@ -20,13 +19,12 @@ returns : tie.Need-returns
 returns c =
     let k = c .before .bit-length in
     let a = c .before .before .args in
-    let none = lead-none (a .word) (bitLength (a .left - 1)) (omega arith) (omega (arith, k .ensures .0)) in
     record {
       most = omega arith;
       few = omega (arith, short (c .before));
       short = omega arith;
       reads = λ s r holds few enough go.
-          (omega arith, rw (k .ensures .0) (run-all s r (a .word) (a .left) (omega arith) holds (omega arith) (omega arith) go none (omega (arith, k .ensures .0, enough))));
+          (omega arith, rw (k .ensures .0) (run-all s r (a .word) (a .left) (omega arith) holds (omega arith) (omega arith) go (omega (arith, k .ensures .0)) (omega (arith, k .ensures .0, enough))));
     }
 
 shl-v : tie.Need-shl-v
