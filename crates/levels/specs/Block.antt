@@ -1,4 +1,5 @@
 -- What stands in a block of the work slice: of each packet of an index the records, finished, and behind them rows of ll of levels 2 and 3.
+use mathlib.Core.Path.{_≡_}
 use mathlib.Core.Bool.{Bool, true, false, cond}
 use mathlib.Core.List.{List}
 use Prim.Native.Nat.{ℕ, suc, _+_, _*_, _/_, _%_}
@@ -6,14 +7,14 @@ use lib.Dec.{eqb, ltb}
 use lib.IntN.{ℤ}
 use mir.Syntax.{w16}
 use Rattle.wrap32.specs.Cut.{cut, edgeDetail}
-use Rattle.lists.specs.Lists.{rows, Rung}
+use Rattle.lists.specs.Lists.{Apart, part, rows, Rung}
 use Rattle.format.specs.Coefficients.{Coefs}
 use Rattle.format.specs.Lifting.{Plane}
 use Rattle.format.specs.Sizes.{Colour, Level, l1, l2, l3, Group, base, detail, final, multiplier, components, columns}
-use Rattle.format.specs.Synthesis.{sumOf, ll2, ll3}
-use Rattle.format.specs.Table.{mode}
+use Rattle.format.specs.Synthesis.{sumOf, ll2, ll3, outcome}
+use Rattle.format.specs.Table.{height, mode}
 use Rattle.passes.specs.declared.Plan.{Plan}
-use Rattle.passes.specs.Held.{line}
+use Rattle.passes.specs.Held.{line, unitOf}
 use Rattle.levels.specs.Placed.{packetIn, outIn}
 
 -- E belongs to a record: whether row j of component c goes in as E in record t. Only the first and the last record have such rows
@@ -63,3 +64,12 @@ Seconds z v i at lo hi work = Rung (outIn (z .w) (z .slots) at l1) (z .w / 8) (z
 
 abbrev pub Thirds : Plan → Coefs → Colour → ℕ → ℕ → ℕ → List ℤ → Type 0
 Thirds z v i at lo hi work = Rung (outIn (z .w) (z .slots) at l2) (z .w / 4) (z .slots * 4) (line (z .w / 4) (ll3 (z .guarded) (z .n) (z .w) i v)) lo hi work
+
+-- levels 1 and 2 of a block are made: ll of level 3 stands whole, and beside the rings of both ll's nothing has changed
+pub record Lowered (z : Plan) (v : Coefs) (i : Colour) (at : ℕ) (work after : List ℤ) : Type 0 where
+  pub thirds : Thirds z v i at 0 (height (z .guarded) (z .n) l3) after
+  pub beside : (s m : ℕ) → Apart s m (outIn (z .w) (z .slots) at l1) (20 * unitOf z) → part after s m ≡ part work s m
+
+-- rows lo to hi of the outcome of the three levels, in a ring from `at` on
+abbrev pub Outcomes : Plan → Coefs → Colour → ℕ → ℕ → ℕ → List ℤ → Type 0
+Outcomes z v i at lo hi work = Rung at (z .w / 2) (z .slots * 8) (line (z .w / 2) (outcome (z .guarded) (z .n) (z .w) i v)) lo hi work
