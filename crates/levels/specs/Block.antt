@@ -10,7 +10,7 @@ use Rattle.wrap32.specs.Cut.{cut, edgeDetail}
 use Rattle.lists.specs.Lists.{Apart, part, rows, Rung}
 use Rattle.format.specs.Coefficients.{Coefs}
 use Rattle.format.specs.Lifting.{Plane}
-use Rattle.format.specs.Sizes.{Colour, Level, l1, l2, l3, Group, base, detail, final, multiplier, components, columns}
+use Rattle.format.specs.Sizes.{Colour, Level, l1, l2, l3, Group, base, detail, final, multiplier, components, columns, planeRows}
 use Rattle.format.specs.Synthesis.{sumOf, ll2, ll3, outcome}
 use Rattle.format.specs.Table.{height, mode}
 use Rattle.passes.specs.declared.Plan.{Plan}
@@ -73,3 +73,8 @@ pub record Lowered (z : Plan) (v : Coefs) (i : Colour) (at : ℕ) (work after : 
 -- rows lo to hi of the outcome of the three levels, in a ring from `at` on
 abbrev pub Outcomes : Plan → Coefs → Colour → ℕ → ℕ → ℕ → List ℤ → Type 0
 Outcomes z v i at lo hi work = Rung at (z .w / 2) (z .slots * 8) (line (z .w / 2) (outcome (z .guarded) (z .n) (z .w) i v)) lo hi work
+
+-- all three levels of a block are made, the last into a ring from `out` on; beside it and the rings of both ll's nothing has changed
+pub record Averaged (z : Plan) (v : Coefs) (i : Colour) (at out : ℕ) (work after : List ℤ) : Type 0 where
+  pub outcomes : Outcomes z v i out 0 (planeRows (z .guarded) (z .n)) after
+  pub beside : (s m : ℕ) → Apart s m (outIn (z .w) (z .slots) at l1) (20 * unitOf z) → Apart s m out (64 * unitOf z) → part after s m ≡ part work s m
