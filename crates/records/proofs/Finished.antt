@@ -11,7 +11,7 @@ use lib.IntN.{ℤ, pos}
 use lib.ListN.{length, getD}
 use Rattle.wrap32.proofs.Laws.{of-cond}
 use Rattle.wrap32.specs.Cut.{edgeDetail}
-use Rattle.lists.specs.Lists.{part, putAt, tab, laid}
+use Rattle.lists.specs.Lists.{part, laid}
 use Rattle.lists.proofs.Tab.{length-tab, length-put, tab-same, tab-part, getD-part}
 use Rattle.lists.proofs.Put.{put-start}
 use Rattle.lists.proofs.Part.{part-put-within, part-put-below, part-put-above}

@@ -1,5 +1,5 @@
 -- `records::finish_record` meets its contract. Assumes nothing.
-use mathlib.Core.Path.{_≡_, refl}
+use mathlib.Core.Path.{refl}
 use borrow.Author.Needs.{needs}
 use Rattle.records.specs.Finished.{finishedBy}
 use Rattle.records.proofs.finish_record.Statement.{statement}
