@@ -84,7 +84,8 @@ module _ (f : Finish) (cols i : ℕ) (l : List ℤ) (room : (f .first + f .count
             ∙ ap (λ (y : ℕ). getD l y (pos 0)) k
             ∙ sym (getD-part l (j * cols) cols x (pos 0) c)
 
-    pub finished-row : f .sums ≡ false → part (finishedBy f cols i l) (j * cols) cols ≡ cond (edged f i j) new old
+    pub finished-row : f .sums ≡ false
+        → part (finishedBy f cols i l) (j * cols) cols ≡ cond (edged f i j) (edgeRow cols (f .odd) (part l (j * cols) cols)) (part l (j * cols) cols)
     unfolding finishedBy edged
     finished-row z = rw z (by (ends i (f .last)) (ltb j (f .first)) (ltb j (f .first + f .count)) refl refl)
       where
