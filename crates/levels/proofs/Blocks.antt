@@ -43,7 +43,7 @@ out-size z k l2 = let d : z .w / 4 ≡ 4 * (z .w / 16) = omega (arith, k) in rw 
 out-size z k l3 = let d : z .w / 2 ≡ 8 * (z .w / 16) = omega (arith, k) in rw d (omega arith)
 
 -- a record of group 0 is one row
-base-line : (w : ℕ) (p : ℕ → Plane) (t : ℕ) → recordLines w base p t ≡ line (w / 16) (p 0) t
+pub base-line : (w : ℕ) (p : ℕ → Plane) (t : ℕ) → recordLines w base p t ≡ line (w / 16) (p 0) t
 unfolding rows
 base-line w p t = let e : t * 1 + 0 ≡ t = omega arith in ap (line (w / 16) (p 0)) e
 

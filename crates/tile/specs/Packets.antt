@@ -1,0 +1,63 @@
+-- The 13 packets of a tile in the order of document 01's checks: groups 0 to 3 of green, of red, of blue, then group 4. Where their records
+-- stand in the work slice of a whole tile, and how they are finished.
+use mathlib.Core.Path.{_≡_}
+use mathlib.Core.Bool.{Bool, true, false, cond}
+use mathlib.Core.List.{List}
+use Prim.Native.Nat.{ℕ, _+_, _*_, _/_, _%_}
+use lib.Dec.{ltb}
+use lib.IntN.{ℤ}
+use Rattle.lists.specs.Lists.{laid}
+use Rattle.format.specs.Coefficients.{coefs}
+use Rattle.format.specs.Sizes.{Colour, l1, l2, l3, Group, base, detail, final, multiplier, columns, stripes, guarded}
+use Rattle.format.specs.Strip.{width, codedHeight}
+use Rattle.format.specs.Table.{mode}
+use Rattle.packets.specs.Answers.{groupOf, colourOf}
+use Rattle.passes.specs.declared.Plan.{Plan}
+use Rattle.records.specs.declared.Finish.{Finish}
+use Rattle.records.specs.declared.Held.{Held}
+use Rattle.levels.specs.Block.{stood, recordSize, recordLines, groupAt}
+
+-- the group and the index of packet p, as numbers, and what they are
+abbrev pub packetGroup : ℕ → ℕ
+packetGroup p = cond (ltb p 12) (p % 4) 4
+
+abbrev pub packetIndex : ℕ → ℕ
+packetIndex p = cond (ltb p 12) (p / 4) 0
+
+abbrev pub groupIn : ℕ → Group
+groupIn p = groupOf (packetGroup p)
+
+abbrev pub colourIn : ℕ → Colour
+colourIn p = colourOf (packetIndex p)
+
+-- a plan of a stream's sizes
+pub record Measured (s : List ℕ) (z : Plan) : Type 0 where
+  pub wide : z .w ≡ width s
+  pub tall : z .n ≡ stripes (codedHeight s)
+  pub guard : z .guarded ≡ guarded (codedHeight s)
+
+-- ---- as the code has it
+-- where a group's records are held, in a block from `at` on
+abbrev pub heldOf : Plan → ℕ → Group → Held
+heldOf z at m = record { m = multiplier m; cols = columns (z .w) m; slots = z .slots; at = groupAt z at m }
+
+-- how a group's records are finished
+abbrev pub asIs : Finish
+asIs = record { sums = false; first = 0; count = 0; last = 0; odd = false }
+
+abbrev pub finishOf : Plan → Group → Colour → Finish
+finishOf z base i = record { sums = true; first = 0; count = 0; last = 0; odd = false }
+finishOf z (detail l1) i = asIs
+finishOf z (detail l2) i = record { sums = false; first = cond (z .guarded) 1 2; count = 1; last = cond (z .guarded) 0 (z .n); odd = false }
+finishOf z (detail l3) i = record { sums = false; first = cond (z .guarded) 2 4; count = cond (z .guarded) 1 2; last = z .n; odd = mode l3 i }
+finishOf z final i = asIs
+
+-- ---- in document 01's words
+-- the work slice with `count` records of packet p from record `from` on laid into it, finished
+abbrev pub packetLaid : List ℕ → Plan → ℕ → ℕ → ℕ → List ℤ → List ℤ
+packetLaid s z p from count work =
+    laid
+    (λ k. groupAt z 0 (groupIn p) + (from + k) % z .slots * recordSize (z .w) (groupIn p))
+    (λ k. recordLines (z .w) (groupIn p) (stood (z .guarded) (z .n) (coefs s) (groupIn p) (colourIn p)) (from + k))
+    work
+    count
