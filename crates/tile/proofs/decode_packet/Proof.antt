@@ -1,67 +1,84 @@
+-- `tile::decode_packet` meets its contract. Assumes nothing.
+use native.Mathlib.Omega.{arith}
+use Rattle.tile.proofs.PacketLaws.{packet-there, packet-long, records-ask, records-laid, records-stopped}
 use borrow.Author.Needs.{needs}
 use Rattle.tile.proofs.decode_packet.Statement.{statement}
 use Rattle.tile.proofs.decode_packet.Tie as tie
-use Rattle.tile.proofs.decode_packet.Reads as reads
-use Rattle.tile.proofs.decode_packet.Lts as lts
-use Rattle.packets.proofs.packet.Reads as packet-reads
-use Rattle.records.proofs.before_first.Reads as before-first-reads
-use Rattle.records.proofs.next_records.Reads as next-records-reads
-use Rattle.tile.proofs.finishing.Reads as finishing-reads
-use Rattle.tile.proofs.group_of.Reads as group-of-reads
-use Rattle.tile.proofs.held.Reads as held-reads
-use Rattle.tile.proofs.index_of.Reads as index-of-reads
 
--- src/lib.rt:138:9
-group-of-requires : tie.Need-group-of-requires
-group-of-requires c κs = search needs
-
--- src/lib.rt:139:9
-index-of-requires : tie.Need-index-of-requires
-index-of-requires c κs = search needs
-
--- src/lib.rt:140:9
 packet-requires : tie.Need-packet-requires
-packet-requires c κs = ?
+packet-requires c κs =
+    let i = c .before in
+    let h = i .before .before in
+    let s = h .args in
+    let r = h .pre .1 in
+    packet-there (s .stream .now) (h .pre .0) (s .z) (r .0) (r .1) (r .2) (s .p) (r .3) _ _ (i .group-of .ensures) (c .index-of .ensures)
 
--- src/lib.rt:141:9
 before-first-requires : tie.Need-before-first-requires
-before-first-requires c κs = ?
+before-first-requires c κs =
+    let k = c .before in
+    let i = k .before in
+    let h = i .before .before in
+    let s = h .args in
+    let p = h .pre in
+    let r = p .1 in
+    let z = s .z in
+    omega (arith, packet-long (s .stream .now) (p .0) z (r .0) (r .1) (r .2) (s .p) (r .3) _ _ (i .group-of .ensures) (k .index-of .ensures) _ (c .packet .ensures))
 
--- src/lib.rt:142:9
-held-requires : tie.Need-held-requires
-held-requires c κs = search needs
-
--- src/lib.rt:143:9
-finishing-requires : tie.Need-finishing-requires
-finishing-requires c κs = search needs
-
--- src/lib.rt:144:32
-add-next-records : tie.Need-add-next-records
-add-next-records c = search needs
-
--- src/lib.rt:144:9
 next-records-requires : tie.Need-next-records-requires
-next-records-requires c κs = ?
+next-records-requires c κs =
+    let f = c .before .before in
+    let d = f .before in
+    let b = d .before in
+    let q = b .before in
+    let k = q .before in
+    let i = k .before in
+    let h = i .before .before in
+    let s = h .args in
+    let p = h .pre in
+    let r = p .1 in
+    let z = s .z in
+    let e = b .before-first .ensures in
+    let g = rw (i .group-of .ensures) at (d .held .ensures) in
+    let y = rw (i .group-of .ensures, k .index-of .ensures) at (f .finishing .ensures) in
+    records-ask (s .stream .now) (p .0) z (r .0) (r .1) (r .2) (s .p) (r .3) _ _ (i .group-of .ensures) (k .index-of .ensures) (q .packet .result .now) (q .packet .ensures) _ g _ y _ (e .1) (e .2) _ (r .4)
 
--- src/lib.rt:132:1
-same-length : tie.Need-same-length
-same-length c = search needs
-
--- src/lib.rt:132:1
 returns : tie.Need-returns
-returns c = ?
+returns c =
+    let n = c .before .next-records in
+    let f = c .before .before .before .before in
+    let d = f .before in
+    let b = d .before in
+    let q = b .before in
+    let k = q .before in
+    let i = k .before in
+    let h = i .before .before in
+    let s = h .args in
+    let p = h .pre in
+    let r = p .1 in
+    let z = s .z in
+    let e = b .before-first .ensures in
+    let t = s .stream .now in
+    let own = q .packet .result .now in
+    let g = i .group-of .ensures in
+    let x = k .index-of .ensures in
+    let y = q .packet .ensures in
+    let a = rw g at (d .held .ensures) in
+    let u = rw (g, x) at (f .finishing .ensures) in (
+      records-stopped t (p .0) z (r .0) (r .1) (r .2) (s .p) (r .3) _ _ g x own y _ a _ u _ (e .0) (e .2) _ (n .ensures .0),
+      records-laid t (p .0) z (r .0) (r .1) (r .2) (s .p) (r .3) _ _ g x own y _ a _ u _ (e .0) (e .2) _ _ (n .ensures .1),
+    )
 
 pub decode-packet-spec : {M : Type 1} → statement M
 decode-packet-spec =
     tie.close
     (tie.spec
-    group-of-requires
-    index-of-requires
+    (λ c κs. search needs)
+    (λ c κs. search needs)
     packet-requires
     before-first-requires
-    held-requires
-    finishing-requires
-    add-next-records
+    (λ c κs. search needs)
+    (λ c κs. search needs)
+    (λ c. search needs)
     next-records-requires
-    same-length
+    (λ c. search needs)
     returns)

@@ -1,15 +1,15 @@
+-- `tile::group_of` meets its contract. Assumes nothing.
+use borrow.Author.Tests.{lt-ltb, le-ltb}
 use Rattle.tile.proofs.group_of.Statement.{statement}
 use Rattle.tile.proofs.group_of.Tie as tie
-use Rattle.tile.proofs.group_of.Reads as reads
-use Rattle.tile.proofs.group_of.Lts as lts
 
--- src/lib.rt:50:1
 returns : tie.Need-returns
-returns c = ?
+returns c =
+    rw (lt-ltb (c .before .args .p) 12 (c .if1 .taken))
 
--- src/lib.rt:50:1
 returns-2 : tie.Need-returns-2
-returns-2 c = ?
+returns-2 c =
+    rw (le-ltb (c .before .args .p) 12 (c .if1 .left))
 
 pub group-of-spec : {M : Type 1} → statement M
 group-of-spec = tie.close (tie.spec returns returns-2)

@@ -1,0 +1,112 @@
+-- From a stream that no check refused to what decoding one of its packets asks and gives. Assumes nothing.
+use mathlib.Core.Path.{_≡_, refl, sym, ap, _∙_}
+use mathlib.Core.List.{List}
+use Prim.Native.Nat.{ℕ, _+_, _*_, _/_, _%_, _^_, _≤_, _<_}
+use native.Mathlib.Nat.{zero-add, mul-le-mul-right}
+use native.Mathlib.Omega.{arith}
+use lib.IntN.{ℤ}
+use lib.ListN.{length}
+use Rattle.lists.specs.Lists.{laid}
+use Rattle.lists.proofs.Laid.{laid-same}
+use Rattle.format.specs.Coefficients.{recordValues, coefs, packetStopped, groupStopped}
+use Rattle.format.specs.Packets.{packetStart, packetLength, packetOf, kind, blocks, payloadAt}
+use Rattle.format.specs.Sizes.{Colour, index, l1, l2, l3, Group, base, detail, final, number, multiplier, components, columns, stripes}
+use Rattle.format.specs.Strip.{width, codedHeight}
+use Rattle.format.proofs.Accepted.{Good, PacketOk}
+use Rattle.passes.specs.declared.Plan.{Plan}
+use Rattle.passes.specs.Held.{unitOf, Fits}
+use Rattle.records.specs.declared.Finish.{Finish}
+use Rattle.records.specs.declared.Held.{Held}
+use Rattle.records.specs.declared.Walked.{Walked}
+use Rattle.records.specs.Finished.{finishedBy}
+use Rattle.records.specs.Record.{walkedBy, valuesBy}
+use Rattle.records.proofs.Packet.{values-all, packet-stopped}
+use Rattle.records.proofs.StoppedLaws.{stopped-lt}
+use Rattle.levels.specs.Block.{stood, recordSize, recordLines, groupAt}
+use Rattle.levels.proofs.Blocks.{group-room}
+use Rattle.tile.specs.Packets.{packetGroup, packetIndex, groupIn, colourIn, Measured, heldOf, finishOf, packetLaid}
+use Rattle.tile.proofs.Numbers.{packet-range, number-in, index-in, packet-present}
+use Rattle.tile.proofs.RecordLaws.{edges-fit, finished-stood}
+
+multiplier-most : (g : Group) → multiplier g ≤ 8
+multiplier-most base = omega arith
+multiplier-most (detail l1) = omega arith
+multiplier-most (detail l2) = omega arith
+multiplier-most (detail l3) = omega arith
+multiplier-most final = omega arith
+
+columns-most : (w : ℕ) (g : Group) → columns w g ≤ w
+columns-most w base = omega arith
+columns-most w (detail l1) = omega arith
+columns-most w (detail l2) = omega arith
+columns-most w (detail l3) = omega arith
+columns-most w final = omega arith
+
+module _ (s : List ℕ) (good : Good s) (z : Plan) (m : Measured s z) (fits : Fits z 0) (slots : z .slots ≡ z .n + 1) (p : ℕ) (h : p < 13) where
+  abbrev g : Group
+  g = groupIn p
+
+  abbrev i : Colour
+  i = colourIn p
+
+  ok : PacketOk s g (index i)
+  ok = good .packets g i (packet-present p h)
+
+  -- the packet lies in the stream
+  pub packet-there : (a k : ℕ) → a ≡ packetGroup p → k ≡ packetIndex p
+      → (128 ≤ length s) × (a < 5) × (k < 16) × (packetStart s a k + packetLength s a k ≤ length s)
+  packet-there a k ea ek =
+      let r = packet-range p h in
+      let na = ea ∙ sym (number-in p h) in
+      let nk = ek ∙ sym (index-in p h) in
+      (good .long, omega (arith, ea, r .0), omega (arith, ek, r .1), rw (na, nk) (ok .within))
+
+  module _ (a k : ℕ) (ea : a ≡ packetGroup p) (ek : k ≡ packetIndex p) (q : List ℕ) (eq : q ≡ packetOf s a k) where
+    pub own : q ≡ packetOf s (number g) (index i)
+    own = eq ∙ (λ j. packetOf s ((ea ∙ sym (number-in p h)) j) ((ek ∙ sym (index-in p h)) j))
+
+    pub packet-long : 16 ≤ length q
+    packet-long = rw own (ok .long)
+
+    kinds : kind q ≡ components g
+    kinds = ap kind own ∙ ok .kinds
+
+    module _ (d : Held) (ed : d ≡ heldOf z 0 g) (f : Finish) (ef : f ≡ finishOf z g i) where
+      -- what its records ask
+      pub records-ask : (v : Walked) → v .offset < 2 ^ 35 → v .stopped ≡ 0 → (size : ℕ) → 64 * unitOf z ≤ size
+          → ((16 ≤ length q) × (0 + (z .n + 1) ≤ 2 ^ 16) × (v .offset < 2 ^ 35) × (v .stopped < 2 ^ 59) × (f .first + f .count ≤ kind q * d .m))
+          × ((d .m ≤ 8) × (d .cols < 2 ^ 16) × (z .n + 1 ≤ d .slots) × (d .at + d .slots * (kind q * d .m * d .cols) ≤ size))
+      records-ask v o n size room =
+          let few : z .n ≤ 2048 = omega (arith, m .tall, good .low) in
+          let narrow : columns (z .w) g < 2 ^ 16 = omega (arith, columns-most (z .w) g, m .wide, good .narrow) in
+          let fit = group-room z 0 (fits .0 .whole) g in
+          rw (ed, ef, kinds) (
+            (packet-long, omega (arith, few), o, omega (arith, n), edges-fit z i g),
+            (multiplier-most g, narrow, omega (arith, slots), omega (arith, fit, room)),
+          )
+
+      module _ (v : Walked) (o : v .offset ≡ payloadAt q 0) (n : v .stopped ≡ 0) where
+        pub records-laid : (work after : List ℤ)
+            → after ≡ laid (λ k. d .at + (0 + k) % d .slots * (kind q * d .m * d .cols)) (λ k. finishedBy f (d .cols) (0 + k) (valuesBy q (d .m) (d .cols) 0 v k)) work (z .n + 1)
+            → after ≡ packetLaid s z p 0 (z .n + 1) work
+        records-laid work after e =
+            e
+            ∙ (λ j. laid (λ k. ed j .at + (0 + k) % ed j .slots * (kind q * ed j .m * ed j .cols)) (λ k. finishedBy (ef j) (ed j .cols) (0 + k) (valuesBy q (ed j .m) (ed j .cols) 0 v k)) work (z .n + 1))
+            ∙ laid-same _ _ _ _ work (z .n + 1)
+            (λ k _. ap (λ (x : ℕ). groupAt z 0 g + (0 + k) % z .slots * (x * multiplier g * columns (z .w) g)) kinds)
+            (λ k _. record-is k)
+          where
+            record-is : (k : ℕ) → finishedBy (finishOf z g i) (columns (z .w) g) (0 + k) (valuesBy q (multiplier g) (columns (z .w) g) 0 v k) ≡ recordLines (z .w) g (stood (z .guarded) (z .n) (coefs s) g i) (0 + k)
+            record-is k =
+                let zero = zero-add k in
+                (λ j. finishedBy (finishOf z g i) (columns (z .w) g) (zero j) (values-all q (multiplier g) (columns (z .w) g) v o n k j))
+                ∙ ap (λ (t : List ℕ). finishedBy (finishOf z g i) (columns (z .w) g) k (recordValues t (multiplier g) (columns (z .w) g) k)) own
+                ∙ finished-stood s z m i k g (ok .kinds)
+                ∙ ap (recordLines (z .w) g (stood (z .guarded) (z .n) (coefs s) g i)) (sym zero)
+
+        pub records-stopped : (r : Walked) → r ≡ walkedBy q (d .m) (d .cols) 0 v (z .n + 1) → (r .stopped ≡ groupStopped s g i) × (r .stopped < 2 ^ 16)
+        unfolding groupStopped
+        records-stopped r e =
+            let few : blocks q ≤ z .n + 1 = omega (arith, ap blocks own, ok .few, m .tall) in
+            let own-count : r .stopped ≡ packetStopped q (multiplier g) (columns (z .w) g) = ap (λ (x : Walked). x .stopped) e ∙ (λ j. walkedBy q (ed j .m) (ed j .cols) 0 v (z .n + 1) .stopped) ∙ packet-stopped q (multiplier g) (columns (z .w) g) v o n (z .n + 1) few in
+            (own-count ∙ (λ j. packetStopped (own j) (multiplier g) (columns (m .wide j) g)), omega (arith, own-count, stopped-lt q (multiplier g) (columns (z .w) g)))
