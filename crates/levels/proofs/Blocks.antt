@@ -19,7 +19,7 @@ use Rattle.format.proofs.Exact.{Tall, rows-after, after-most}
 use Rattle.format.proofs.Ranges.{multiplier-some}
 use Rattle.format.proofs.TableLaws.{source-in}
 use Rattle.passes.specs.declared.Plan.{Plan}
-use Rattle.passes.specs.Held.{line, unitOf, Fits}
+use Rattle.passes.specs.Plan.{line, unitOf, Fits}
 use Rattle.passes.proofs.Planes.{rows-same}
 use Rattle.levels.specs.Placed.{llIn, sourceIn, outIn}
 use Rattle.levels.specs.Steps.{steps, rowsAfter, rowsBy, next, outRow, Near, Makes}

@@ -9,7 +9,7 @@ use Rattle.format.specs.Table.{start, height, highs, hl, lh, hh, source, bandRo
 use Rattle.format.specs.Table as table
 use Rattle.format.proofs.TableLaws.{source-in}
 use Rattle.passes.specs.declared.Level as code
-use Rattle.passes.specs.Held.{Sized, Slots}
+use Rattle.passes.specs.Plan.{Sized, Slots}
 use Rattle.passes.specs.Level.{Lows, Highs}
 use Rattle.passes.proofs.PlaceLaws.{place-is}
 use Rattle.levels.specs.Placed.{packetIn, rowIn, llIn, sourceIn, outIn, Placed}

@@ -19,7 +19,7 @@ use Rattle.format.specs.Table.{height, lead, highs, hl, lh, hh}
 use Rattle.format.specs.Table as table
 use Rattle.lifting.specs.Lift.{liftRow}
 use Rattle.passes.specs.declared.Level as code
-use Rattle.passes.specs.Held.{line, Sized, Slots}
+use Rattle.passes.specs.Plan.{line, Sized, Slots}
 use Rattle.passes.specs.Level.{Lows, Highs, Sound, twoRows, loH, hiH, pairAt}
 use Rattle.passes.proofs.PassLaws.{rows-pairs}
 use Rattle.passes.proofs.PlaceLaws.{pair-is}

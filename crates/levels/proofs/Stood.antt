@@ -21,7 +21,7 @@ use Rattle.format.specs.Table.{start, height, highs, Source, S, E, source, band
 use Rattle.format.specs.Table as table
 use Rattle.format.proofs.Exact.{Tall}
 use Rattle.format.proofs.Ranges.{multiplier-some}
-use Rattle.passes.specs.Held.{place, line}
+use Rattle.passes.specs.Plan.{place, line}
 use Rattle.passes.proofs.PlaceLaws.{place-is}
 use Rattle.levels.specs.Placed.{packetIn, rowIn}
 use Rattle.levels.specs.Block.{edgeAt, stood, recordSize, recordRow, recordLines}

@@ -14,7 +14,7 @@ use Rattle.format.specs.Sizes.{Colour, Level, l1, l2, l3, Group, base, detail, 
 use Rattle.format.specs.Synthesis.{sumOf, ll2, ll3, outcome}
 use Rattle.format.specs.Table.{height, mode}
 use Rattle.passes.specs.declared.Plan.{Plan}
-use Rattle.passes.specs.Held.{line, unitOf}
+use Rattle.passes.specs.Plan.{line, unitOf}
 use Rattle.levels.specs.Placed.{packetIn, outIn}
 
 -- E belongs to a record: whether row j of component c goes in as E in record t. Only the first and the last record have such rows

@@ -14,7 +14,7 @@ use Rattle.format.specs.Table as table
 use Rattle.lifting.specs.Lift.{liftRow}
 use Rattle.passes.specs.declared.Level as code
 use Rattle.passes.specs.declared.Plan.{Plan}
-use Rattle.passes.specs.Held.{line}
+use Rattle.passes.specs.Plan.{line}
 use Rattle.passes.specs.Level.{twoRows, leadTwo, loH, hiH, pairAt}
 use Rattle.levels.specs.Placed.{llIn, sourceIn}
 

@@ -3,18 +3,19 @@ use mathlib.Core.Path.{_≡_, refl, sym, ap, _∙_}
 use mathlib.Core.List.{List}
 use Prim.Native.Nat.{ℕ, _+_, _*_, _/_, _%_, _^_, _≤_, _<_}
 use native.Mathlib.Nat.{zero-add, mul-le-mul-right}
+use native.Mathlib.Numerals.{add-one}
 use native.Mathlib.Omega.{arith}
 use lib.IntN.{ℤ}
 use lib.ListN.{length}
 use Rattle.lists.specs.Lists.{laid}
 use Rattle.lists.proofs.Laid.{laid-same}
-use Rattle.format.specs.Coefficients.{recordValues, coefs, packetStopped, groupStopped}
-use Rattle.format.specs.Packets.{packetStart, packetLength, packetOf, kind, blocks, payloadAt}
+use Rattle.format.specs.Coefficients.{recordValues, coefs, packetStopped, groupStopped, planeStopped, stoppedOf}
+use Rattle.format.specs.Packets.{sum, packetStart, packetLength, packetOf, kind, blocks, payloadAt}
 use Rattle.format.specs.Sizes.{Colour, index, l1, l2, l3, Group, base, detail, final, number, multiplier, components, columns, stripes}
 use Rattle.format.specs.Strip.{width, codedHeight}
 use Rattle.format.proofs.Accepted.{Good, PacketOk}
 use Rattle.passes.specs.declared.Plan.{Plan}
-use Rattle.passes.specs.Held.{unitOf, Fits}
+use Rattle.passes.specs.Plan.{unitOf, Fits}
 use Rattle.records.specs.declared.Finish.{Finish}
 use Rattle.records.specs.declared.Held.{Held}
 use Rattle.records.specs.declared.Walked.{Walked}
@@ -110,3 +111,23 @@ module _ (s : List ℕ) (good : Good s) (z : Plan) (m : Measured s z) (fits : Fi
             let few : blocks q ≤ z .n + 1 = omega (arith, ap blocks own, ok .few, m .tall) in
             let own-count : r .stopped ≡ packetStopped q (multiplier g) (columns (z .w) g) = ap (λ (x : Walked). x .stopped) e ∙ (λ j. walkedBy q (ed j .m) (ed j .cols) 0 v (z .n + 1) .stopped) ∙ packet-stopped q (multiplier g) (columns (z .w) g) v o n (z .n + 1) few in
             (own-count ∙ (λ j. packetStopped (own j) (multiplier g) (columns (m .wide j) g)), omega (arith, own-count, stopped-lt q (multiplier g) (columns (z .w) g)))
+
+-- ---- stopped records, packet by packet
+abbrev stoppedIn : List ℕ → ℕ → ℕ
+stoppedIn s p = groupStopped s (groupIn p) (colourIn p)
+
+-- those of the first p packets
+abbrev pub stoppedBy : List ℕ → ℕ → ℕ
+stoppedBy s p = sum (stoppedIn s) p
+
+pub stopped-start : (s : List ℕ) → 0 ≡ stoppedBy s 0
+unfolding sum
+stopped-start s = refl
+
+pub stopped-step : (s : List ℕ) (p n k : ℕ) → n ≡ stoppedBy s p → k ≡ groupStopped s (groupIn p) (colourIn p) → n + k ≡ stoppedBy s (p + 1)
+unfolding sum
+stopped-step s p n k e f = rw add-one (λ j. e j + f j)
+
+pub stopped-all : (s : List ℕ) → stoppedBy s 13 ≡ stoppedOf s
+unfolding sum stoppedOf planeStopped
+stopped-all s = omega arith

@@ -14,7 +14,7 @@ use mir.Syntax.{w16}
 use Rattle.wrap32.specs.Cut.{cut, edgeDetail}
 use Rattle.lists.specs.Lists.{part, rows}
 use Rattle.lists.proofs.Rows.{rows-same, as-rows}
-use Rattle.lists.proofs.Tab.{tab-same, getD-part}
+use Rattle.lists.proofs.Tab.{tab-same, getD-part, part-tab}
 use Rattle.format.specs.Coefficients.{recordValues, coefs}
 use Rattle.format.specs.Lifting.{Plane}
 use Rattle.format.specs.Packets.{packetOf, kind}
@@ -26,8 +26,7 @@ use Rattle.format.proofs.PlaceLaws.{open-sum}
 use Rattle.format.proofs.Ranges.{multiplier-some}
 use Rattle.lifting.specs.Lift.{at, edgeRow, sumRow}
 use Rattle.passes.specs.declared.Plan.{Plan}
-use Rattle.passes.specs.Held.{line}
-use Rattle.passes.proofs.HeldLaws.{part-tab}
+use Rattle.passes.specs.Plan.{line}
 use Rattle.passes.proofs.Planes.{at-line}
 use Rattle.records.specs.declared.Finish.{Finish}
 use Rattle.records.specs.Finished.{ends, edged, finishedBy}
@@ -142,7 +141,7 @@ module _ (s : List ℕ) (z : Plan) (m : Measured s z) (g : Group) (i : Colour) (
   value-row j b =
       let fits = mul-le-mul-right c b in
       let small = mod-lt j (multiplier-some g) in
-      part-tab values (j * c) c (omega (arith, long, fits))
+      part-tab values (j * c) c (pos 0) (omega (arith, long, fits))
       ∙ tab-same c _ _ (λ x _.
       ap (λ (w : ℕ). getD (recordValues (packetOf s (number g) (index i)) k (columns w g) t) (j * columns w g + x) (pos 0)) (m .wide)
       ∙ (λ q. getD (recordValues (packetOf s (number g) (index i)) k (columns (width s) g) (sym (digits-div t small) q)) (own j small q * columns (width s) g + x) (pos 0)))

@@ -8,7 +8,7 @@ use Rattle.format.specs.Sizes.{Colour, green, red, blue, Group, number, planeRo
 use Rattle.format.specs.Strip.{width, codedHeight}
 use Rattle.format.specs.Synthesis.{planes}
 use Rattle.passes.specs.declared.Plan.{Plan}
-use Rattle.passes.specs.Held.{unitOf}
+use Rattle.passes.specs.Plan.{unitOf}
 use Rattle.levels.specs.Block.{Stood, groupAt, Outcomes}
 use Rattle.tile.specs.Packets.{groupIn, colourIn}
 

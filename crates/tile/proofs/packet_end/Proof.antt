@@ -1,180 +1,152 @@
+-- `tile::packet_end` meets its contract. Assumes nothing.
+use mathlib.Core.Path.{refl, sym, ap, _∙_}
+use Prim.Native.Nat.{ℕ, _*_}
+use native.Mathlib.Omega.{arith}
+use Rattle.format.specs.Coefficients.{coefs}
+use Rattle.format.specs.Sizes.{green, red, blue}
+use Rattle.format.proofs.Exact.{planes-least}
+use Rattle.tile.proofs.GoingLaws.{index-records, averages-end, red-end, blue-end, near-green, green-end, going-on}
+use Rattle.tile.proofs.LentLaws.{ring-room, row-units}
 use borrow.Author.Needs.{needs}
 use Rattle.tile.proofs.packet_end.Statement.{statement}
 use Rattle.tile.proofs.packet_end.Tie as tie
-use Rattle.tile.proofs.packet_end.Reads as reads
-use Rattle.tile.proofs.packet_end.Lts as lts
-use Rattle.green.proofs.final_rows.Reads as final-rows-reads
-use Rattle.green.proofs.rows_of.Reads as rows-of-reads
-use Rattle.levels.proofs.averages.Reads as averages-reads
-use Rattle.levels.proofs.colour_plane.Reads as colour-plane-reads
-use Rattle.passes.proofs.Plan.unit.Reads as unit-reads
 
--- src/lib.rt:161:9
-unit-requires : tie.Need-unit-requires
-unit-requires c κs = search needs
-
--- src/lib.rt:162:13
-mul-a : tie.Need-mul-a
-mul-a c = search needs
-
--- src/lib.rt:163:16
 mul-ring : tie.Need-mul-ring
-mul-ring c = search needs
+mul-ring c =
+    let h = c .before .before in
+    omega (arith, row-units (h .args .z) (h .pre .0), h .pre .0 .1 .small)
 
--- src/lib.rt:165:29
-sub-averages : tie.Need-sub-averages
-sub-averages c = search needs
-
--- src/lib.rt:165:29
-part-averages-start : tie.Need-part-averages-start
-part-averages-start c = search needs
-
--- src/lib.rt:165:29
 part-averages-end : tie.Need-part-averages-end
-part-averages-end c = ?
+part-averages-end c =
+    let h = c .before .before .before .before in
+    let s = h .args in
+    let p = h .pre in
+    omega (arith, p .4, ring-room (s .z .guarded) (s .z .w) (s .z .n) (p .0 .0))
 
--- src/lib.rt:165:14
-averages-requires : tie.Need-averages-requires
-averages-requires c κs = search needs
-
--- src/lib.rt:166:33
-sub-colour-plane : tie.Need-sub-colour-plane
-sub-colour-plane c = search needs
-
--- src/lib.rt:166:33
-part-colour-plane-start : tie.Need-part-colour-plane-start
-part-colour-plane-start c = search needs
-
--- src/lib.rt:166:33
 part-colour-plane-end : tie.Need-part-colour-plane-end
-part-colour-plane-end c = ?
+part-colour-plane-end c =
+    let h = c .before .before .before .before in
+    let s = h .args in
+    let p = h .pre in
+    omega (arith, p .4, ring-room (s .z .guarded) (s .z .w) (s .z .n) (p .0 .0))
 
--- src/lib.rt:166:14
-colour-plane-requires : tie.Need-colour-plane-requires
-colour-plane-requires c κs = search needs
-
--- src/lib.rt:167:34
-sub-colour-plane-2 : tie.Need-sub-colour-plane-2
-sub-colour-plane-2 c = search needs
-
--- src/lib.rt:167:34
-part-colour-plane-start-2 : tie.Need-part-colour-plane-start-2
-part-colour-plane-start-2 c = search needs
-
--- src/lib.rt:167:34
 part-colour-plane-end-2 : tie.Need-part-colour-plane-end-2
-part-colour-plane-end-2 c = ?
+part-colour-plane-end-2 c =
+    let h = c .before .before .before .before in
+    let s = h .args in
+    let p = h .pre in
+    omega (arith, p .4, ring-room (s .z .guarded) (s .z .w) (s .z .n) (p .0 .0))
 
--- src/lib.rt:167:15
-colour-plane-requires-2 : tie.Need-colour-plane-requires-2
-colour-plane-requires-2 c κs = search needs
-
--- src/lib.rt:168:47
-mul-final-rows : tie.Need-mul-final-rows
-mul-final-rows c = search needs
-
--- src/lib.rt:168:63
-rows-of-requires : tie.Need-rows-of-requires
-rows-of-requires c κs = search needs
-
--- src/lib.rt:168:15
 final-rows-requires : tie.Need-final-rows-requires
-final-rows-requires c κs = ?
+final-rows-requires c κs =
+    let u = c .before .before .before .before .before in
+    let h = u .before in
+    let s = h .args in
+    let p = h .pre in
+    let z = s .z in
+    let e = u .unit .ensures in
+    let n = c .rows-of .ensures in
+    let w = row-units z (p .0) in (
+      (p .0, omega (arith, e), omega (arith, e), omega (arith, e, w, p .3)),
+      (omega (arith, planes-least (z .guarded) (z .n) (p .0 .0 .tall)), omega (arith, n), p .4 ∙ ap (λ (k : ℕ). k * z .w) (sym n)),
+    )
 
--- src/lib.rt:150:1
-same-length : tie.Need-same-length
-same-length c = search needs
-
--- src/lib.rt:150:1
-same-length-2 : tie.Need-same-length-2
-same-length-2 c = search needs
-
--- src/lib.rt:150:1
 returns : tie.Need-returns
-returns c = ?
+returns c =
+    λ t m g.
+    let e = c .before .before in
+    let k = e .before .before .before in
+    let u = k .before .before in
+    let h = u .before in
+    let s = h .args in
+    let p = h .pre in
+    let x = rw (k .match .keys1) at g in
+    let records = index-records t (s .z) (p .0) _ _ _ _ 3 (omega arith) refl x in
+    rw (k .match .keys1) (averages-end t (s .z) (p .0) m _ _ (s .full .now) _ _ _ (rw (u .unit .ensures) at (e .averages .ensures (coefs t) green records)))
 
--- src/lib.rt:150:1
-same-length-3 : tie.Need-same-length-3
-same-length-3 c = search needs
-
--- src/lib.rt:150:1
-same-length-4 : tie.Need-same-length-4
-same-length-4 c = search needs
-
--- src/lib.rt:150:1
-same-length-5 : tie.Need-same-length-5
-same-length-5 c = search needs
-
--- src/lib.rt:150:1
 returns-2 : tie.Need-returns-2
-returns-2 c = ?
+returns-2 c =
+    λ t m g.
+    let e = c .before .before .before in
+    let k = e .before .before .before .before in
+    let h = k .before .before .before in
+    let s = h .args in
+    let p = h .pre in
+    let x = rw (k .match .keys2) at g in
+    let records = index-records t (s .z) (p .0) _ _ _ _ 7 (omega arith) refl x in
+    let done = e .colour-plane .ensures (coefs t) red records in
+    rw (k .match .keys2) (red-end t (s .z) (p .0) m _ _ _ _ _ _ x _ (done .0) (done .1))
 
--- src/lib.rt:150:1
-same-length-6 : tie.Need-same-length-6
-same-length-6 c = search needs
-
--- src/lib.rt:150:1
-same-length-7 : tie.Need-same-length-7
-same-length-7 c = search needs
-
--- src/lib.rt:150:1
-same-length-8 : tie.Need-same-length-8
-same-length-8 c = search needs
-
--- src/lib.rt:150:1
 returns-3 : tie.Need-returns-3
-returns-3 c = ?
+returns-3 c =
+    λ t m g.
+    let e = c .before .before .before in
+    let k = e .before .before .before .before in
+    let h = k .before .before .before in
+    let s = h .args in
+    let p = h .pre in
+    let x = rw (k .match .keys3) at g in
+    let records = index-records t (s .z) (p .0) _ _ _ _ 11 (omega arith) refl x in
+    let done = e .colour-plane2 .ensures (coefs t) blue records in
+    rw (k .match .keys3) (blue-end t (s .z) (p .0) m _ _ _ _ _ _ x _ (done .0) (done .1))
 
--- src/lib.rt:150:1
-same-length-9 : tie.Need-same-length-9
-same-length-9 c = search needs
-
--- src/lib.rt:150:1
-same-length-10 : tie.Need-same-length-10
-same-length-10 c = search needs
-
--- src/lib.rt:150:1
 returns-4 : tie.Need-returns-4
-returns-4 c = ?
+returns-4 c = λ t m g.
+    let e = c .before .before in
+    let n = e .before in
+    let k = n .before .before .before in
+    let u = k .before .before in
+    let h = u .before in
+    let s = h .args in
+    let p = h .pre in
+    let x = rw (k .match .keys4) at g in
+    let near = near-green t (s .z) (p .0) m (p .1) _ _ _ _ x in
+    let done = rw (u .unit .ensures, n .rows-of .ensures) at (e .final-rows .ensures) in
+    rw (k .match .keys4) (green-end t (s .z) (p .0) m (p .1) _ _ _ _ x _ _ (done .1) (done .0 _ _ near))
 
--- src/lib.rt:150:1
 returns-5 : tie.Need-returns-5
-returns-5 c = ?
+returns-5 c =
+    λ t m g.
+    let h = c .before .before .before in
+    let s = h .args in
+    let p = h .pre in
+    let k = c .match .rest in
+    going-on t (s .z) (p .0) _ _ _ _ (s .p) (omega (arith, k .1, p .2)) (omega (arith, k .1, k .0 .1, k .0 .0 .1, k .0 .0 .0 .1, p .2)) g
 
 pub packet-end-spec : {M : Type 1} → statement M
 packet-end-spec =
     tie.close
     (tie.spec
-    unit-requires
-    mul-a
+    (λ c κs. search needs)
+    (λ c. search needs)
     mul-ring
-    sub-averages
-    part-averages-start
+    (λ c. search needs)
+    (λ c. search needs)
     part-averages-end
-    averages-requires
-    sub-colour-plane
-    part-colour-plane-start
+    (λ c κs. search needs)
+    (λ c. search needs)
+    (λ c. search needs)
     part-colour-plane-end
-    colour-plane-requires
-    sub-colour-plane-2
-    part-colour-plane-start-2
+    (λ c κs. search needs)
+    (λ c. search needs)
+    (λ c. search needs)
     part-colour-plane-end-2
-    colour-plane-requires-2
-    mul-final-rows
-    rows-of-requires
+    (λ c κs. search needs)
+    (λ c. search needs)
+    (λ c κs. search needs)
     final-rows-requires
-    same-length
-    same-length-2
+    (λ c. search needs)
+    (λ c. search needs)
     returns
-    same-length-3
-    same-length-4
-    same-length-5
+    (λ c. search needs)
+    (λ c. search needs)
+    (λ c. search needs)
     returns-2
-    same-length-6
-    same-length-7
-    same-length-8
+    (λ c. search needs)
+    (λ c. search needs)
+    (λ c. search needs)
     returns-3
-    same-length-9
-    same-length-10
+    (λ c. search needs)
+    (λ c. search needs)
     returns-4
     returns-5)

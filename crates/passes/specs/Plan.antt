@@ -1,0 +1,39 @@
+-- The plan of the work slice: the sizes of a tile, the slots, and where the rows of a packet stand.
+use mathlib.Core.Path.{_≡_}
+use mathlib.Core.Bool.{Bool}
+use mathlib.Core.List.{List}
+use Prim.Native.Nat.{ℕ, _+_, _*_, _/_, _%_, _^_, _≤_, _<_}
+use lib.IntN.{ℤ}
+use Rattle.lists.specs.Lists.{tab}
+use Rattle.format.specs.Lifting.{Plane}
+use Rattle.format.proofs.Exact.{Tall}
+use Rattle.passes.specs.declared.Plan.{Plan}
+
+-- Row r of component c in a packet that stands from `start` on, of rows of w numbers: record after record, in a record component after
+-- component, m rows each
+unfoldable pub place : ℕ → ℕ → ℕ → ℕ → ℕ → ℕ → ℕ
+place start m kind w c r = start + ((r / m * kind + c) * m + r % m) * w
+
+-- row y of a plane of c columns, as a list
+abbrev pub line : ℕ → Plane → ℕ → List ℤ
+line c p y = tab c (p y)
+
+-- a coded size that is accepted, by its width, document 01's n and whether it is guarded
+pub record Sized (g : Bool) (w n : ℕ) : Type 0 where
+  pub whole : w % 16 ≡ 0
+  pub wide : 16 ≤ w
+  pub tall : Tall g n
+  pub few : n < 2 ^ 32
+
+-- a block of s slots from `at` on, whose places can be counted
+pub record Slots (w s at : ℕ) : Type 0 where
+  pub some : 1 ≤ s
+  pub few : s < 2 ^ 40
+  pub small : at + 256 * (s * (w / 16)) < 2 ^ 63
+
+-- the unit in which a block's parts are measured, a row of group 0 for each slot; and that a plan's sizes are those of an accepted tile
+abbrev pub unitOf : Plan → ℕ
+unitOf z = z .slots * (z .w / 16)
+
+abbrev pub Fits : Plan → ℕ → Type 0
+Fits z at = Sized (z .guarded) (z .w) (z .n) × Slots (z .w) (z .slots) at
