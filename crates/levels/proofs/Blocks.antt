@@ -1,14 +1,15 @@
 -- A block that holds all records of an index: its levels, one after the other. Assumes nothing.
-use mathlib.Core.Path.{_≡_, refl, sym, ap, _∙_}
+use mathlib.Core.Path.{_≡_, ap, _∙_}
 use mathlib.Core.Bool.{Bool, true, false}
 use mathlib.Core.List.{List}
 use mathlib.Core.Logic.{inl, inr}
-use Prim.Native.Nat.{ℕ, zero, suc, _+_, _-_, _*_, _/_, _%_, _≤_, _<_}
+use Prim.Native.Nat.{ℕ, _+_, _*_, _/_, _%_, _≤_, _<_}
 use native.Mathlib.Nat.{zero-add}
 use native.Mathlib.Omega.{arith}
 use lib.IntN.{ℤ}
 use Rattle.lists.specs.Lists.{Apart, part, rows, Rung, Gone}
 use Rattle.lists.proofs.Rings.{rung-kept}
+use Rattle.lists.proofs.Rows.{rows-same}
 use Rattle.format.specs.Coefficients.{Coefs}
 use Rattle.format.specs.Lifting.{Plane}
 use Rattle.format.specs.Sizes.{Colour, Level, l1, l2, l3, Group, base, detail, final, multiplier, columns, planeRows}
@@ -16,14 +17,12 @@ use Rattle.format.specs.Synthesis.{bands, ll1, ll2, ll3, outcome, flat}
 use Rattle.format.specs.Table.{start, height, highs, source, bandRows, fromComponent, fromRow}
 use Rattle.format.specs.Table as table
 use Rattle.format.proofs.Exact.{Tall, rows-after, after-most}
-use Rattle.format.proofs.Ranges.{multiplier-some}
 use Rattle.format.proofs.TableLaws.{source-in}
 use Rattle.passes.specs.declared.Plan.{Plan}
 use Rattle.passes.specs.Plan.{line, unitOf, Fits}
-use Rattle.passes.proofs.Planes.{rows-same}
 use Rattle.levels.specs.Placed.{llIn, sourceIn, outIn}
 use Rattle.levels.specs.Steps.{steps, rowsAfter, rowsBy, next, outRow, Near, Makes}
-use Rattle.levels.specs.Block.{stood, recordSize, recordLines, Stood, groupAt, Records, Seconds, Thirds, Lowered, Outcomes}
+use Rattle.levels.specs.Block.{stood, recordSize, recordLines, Stood, groupAt, Records, Seconds, Lowered, Outcomes}
 use Rattle.levels.proofs.Heights.{heights, highs-3}
 use Rattle.levels.proofs.InBlock.{outUnits}
 use Rattle.levels.proofs.Stood.{stood-row, source-line, sums-line}

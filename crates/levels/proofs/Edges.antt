@@ -1,15 +1,15 @@
 -- The rows that go in as E are those of the first and the last record that `edgeAt` says. Assumes nothing.
-use mathlib.Core.Path.{_≡_, refl, ap, _∙_}
+use mathlib.Core.Path.{_≡_, refl}
 use mathlib.Core.Bool.{Bool, true, false, cond}
 use mathlib.Core.Logic.{_≢_}
 use Prim.Native.Nat.{ℕ, _+_, _-_, _*_, _/_, _%_, _≤_, _<_}
 use native.Mathlib.Omega.{arith}
 use lib.Dec.{eqb, ltb}
-use borrow.Author.Tests.{eqb-true, eqb-false, ltb-true, ltb-false, eq-eqb, ne-eqb, lt-ltb, le-ltb}
+use borrow.Author.Tests.{eqb-true, eqb-false, ltb-true, ltb-false, eq-eqb, ne-eqb, lt-ltb}
 use Rattle.wrap32.proofs.Laws.{of-cond}
 use Rattle.format.proofs.Exact.{Tall}
 use Rattle.format.specs.Sizes.{Level, l1, l2, l3, detail, multiplier}
-use Rattle.format.specs.Table.{height, highs, bandRows, Source, S, E, hl, lh, hh, first, middle, last, plain, source, fromComponent, fromRow}
+use Rattle.format.specs.Table.{height, highs, bandRows, Source, S, E, hl, lh, hh, plain, source, fromComponent, fromRow}
 use Rattle.format.specs.Table as table
 use Rattle.levels.specs.Block.{ends, edgeAt}
 

@@ -3,11 +3,10 @@ use mathlib.Core.Path.{_≡_, sym, ap, _∙_}
 use mathlib.Core.Bool.{Bool, true, false}
 use mathlib.Core.List.{List}
 use mathlib.Core.Logic.{inl}
-use Prim.Native.Nat.{ℕ, _+_, _-_, _*_, _≤_, _<_}
+use Prim.Native.Nat.{ℕ, _+_, _-_, _*_, _≤_}
 use native.Mathlib.Omega.{arith}
 use lib.IntN.{ℤ}
 use lib.ListN.{length}
-use Rattle.lists.specs.Lists.{part}
 use Rattle.lists.proofs.Laid.{length-laid, laid-out}
 use Rattle.lifting.specs.Lift.{liftRow, endRow}
 use Rattle.passes.specs.declared.Level as code
@@ -44,9 +43,9 @@ last-same g m out after work same lows highs some e =
     let q = high-end g m work (g .h) some (omega arith) in
     let f = lead-low-same g m after work out same lows highs (g .h - 1) (omega (arith, some)) (omega (arith, some, e)) in
     let lo =
-        p .0 ∙ ap (endRow (g .c) (bandRow after (g .c) (g .lh) (g .h))) (f .0)
-        ∙ lead-end-same g m after work out same lows highs (g .h) (loL g m work (g .h - 1)) (omega (arith, e)) ∙ sym (q .0) in
+    p .0 ∙ ap (endRow (g .c) (bandRow after (g .c) (g .lh) (g .h))) (f .0)
+    ∙ lead-end-same g m after work out same lows highs (g .h) (loL g m work (g .h - 1)) (omega (arith, e)) ∙ sym (q .0) in
     let hi =
-        p .1 ∙ ap (endRow (g .c) (bandRow after (g .c) (g .hh) (g .h))) (f .1)
-        ∙ lead-end-same-hi g m after work out same lows highs (g .h) (hiL g m work (g .h - 1)) (omega (arith, e)) ∙ sym (q .1) in
+    p .1 ∙ ap (endRow (g .c) (bandRow after (g .c) (g .hh) (g .h))) (f .1)
+    ∙ lead-end-same-hi g m after work out same lows highs (g .h) (hiL g m work (g .h - 1)) (omega (arith, e)) ∙ sym (q .1) in
     (λ i. liftRow (g .c) (lo i) (hi i))

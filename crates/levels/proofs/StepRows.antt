@@ -11,6 +11,7 @@ use lib.ListN.{length}
 use Rattle.lists.specs.Lists.{part, rows, putAt, Gone}
 use Rattle.lists.proofs.Laid.{laid-same}
 use Rattle.lists.proofs.Pairs.{pairs-gone, row-gone}
+use Rattle.lists.proofs.Rows.{rows-same, rows-pairs}
 use Rattle.lists.proofs.Tab.{length-tab}
 use Rattle.format.specs.Lifting.{Plane, Lead, lowLeads, highLeads}
 use Rattle.format.specs.Sizes.{Level, l1, l2, l3, detail, multiplier, columns}
@@ -21,11 +22,10 @@ use Rattle.lifting.specs.Lift.{liftRow}
 use Rattle.passes.specs.declared.Level as code
 use Rattle.passes.specs.Plan.{line, Sized, Slots}
 use Rattle.passes.specs.Level.{Lows, Highs, Sound, twoRows, loH, hiH, pairAt}
-use Rattle.passes.proofs.PassLaws.{rows-pairs}
 use Rattle.passes.proofs.PlaceLaws.{pair-is}
-use Rattle.passes.proofs.Planes.{LowLine, HighLine, pair-line, lead-line, lead-high-line, rows-same}
+use Rattle.passes.proofs.Planes.{LowLine, HighLine, pair-line, lead-line, lead-high-line}
 use Rattle.levels.specs.Placed.{outIn, Placed}
-use Rattle.levels.specs.Steps.{passedTwo, pairsIn, stepsIn, steps, rowsAfter, rowsBy, next, outRow, Near}
+use Rattle.levels.specs.Steps.{passedTwo, pairsIn, stepsIn, steps, rowsBy, next, outRow, Near}
 use Rattle.levels.proofs.Heights.{leads, heights, height-pos, highs-3, next-columns, next-rows}
 use Rattle.levels.proofs.InBlock.{outUnits, out-room, placed-lows, placed-highs}
 use Rattle.levels.proofs.StepLaws.{pairs-length}

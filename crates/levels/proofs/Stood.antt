@@ -1,29 +1,28 @@
 -- Records that stand finished in their ring, row by row: they are what a level reads. Assumes nothing.
 use mathlib.Core.Path.{_≡_, refl, sym, ap, _∙_}
-use mathlib.Core.Bool.{Bool, true, false, cond}
+use mathlib.Core.Bool.{Bool, cond}
 use mathlib.Core.List.{List}
-use Prim.Native.Nat.{ℕ, suc, _+_, _-_, _*_, _/_, _%_, _≤_, _<_}
+use Prim.Native.Nat.{ℕ, suc, _+_, _*_, _/_, _%_, _≤_, _<_}
 use native.Mathlib.Nat.{mul-le-mul-right, mul-assoc, add-mul, add-assoc, mod-lt, div-add-mod'}
 use native.Mathlib.Omega.{arith}
 use lib.Arith.{digits-div, digits-mod, mod-mul}
 use lib.IntN.{ℤ}
-use lib.ListN.{length}
-use Rattle.lists.specs.Lists.{part, rows}
+use Rattle.lists.specs.Lists.{part}
 use Rattle.lists.proofs.Part.{part-part}
 use Rattle.lists.proofs.Rows.{row-rows}
 use Rattle.lists.proofs.Tab.{length-tab, tab-same}
 use Rattle.wrap32.specs.Cut.{edgeDetail}
 use Rattle.format.specs.Coefficients.{Coefs}
 use Rattle.format.specs.Lifting.{Plane}
-use Rattle.format.specs.Sizes.{Colour, Level, l1, l2, l3, Group, base, detail, final, multiplier, components, columns}
+use Rattle.format.specs.Sizes.{Colour, Level, Group, base, detail, multiplier, components, columns}
 use Rattle.format.specs.Synthesis.{value, bands, ll1}
 use Rattle.format.specs.Table.{start, height, highs, Source, S, E, source, bandRows, mode, fromComponent, fromRow}
 use Rattle.format.specs.Table as table
 use Rattle.format.proofs.Exact.{Tall}
 use Rattle.format.proofs.Ranges.{multiplier-some}
-use Rattle.passes.specs.Plan.{place, line}
+use Rattle.passes.specs.Plan.{line}
 use Rattle.passes.proofs.PlaceLaws.{place-is}
-use Rattle.levels.specs.Placed.{packetIn, rowIn}
+use Rattle.levels.specs.Placed.{rowIn}
 use Rattle.levels.specs.Block.{edgeAt, stood, recordSize, recordRow, recordLines}
 use Rattle.levels.proofs.Edges.{isEdge, edge-where}
 

@@ -1,6 +1,6 @@
 -- The steps of a level: pairs of rows, and the row after them where there is one high row more than low ones. What a range of steps reads and makes.
 use mathlib.Core.Path.{_≡_}
-use mathlib.Core.Bool.{Bool, true, false, cond}
+use mathlib.Core.Bool.{Bool, cond}
 use mathlib.Core.List.{List}
 use Prim.Native.Nat.{ℕ, _+_, _-_, _*_, _≤_, _<_, min}
 use lib.Dec.{ltb}

@@ -1,10 +1,8 @@
 -- A ring of pairs of rows is a ring of rows, and what stands there after more pairs were laid. Assumes nothing.
 use mathlib.Core.Path.{_≡_, refl, sym, ap, _∙_}
-use mathlib.Core.Bool.{Bool, true, false}
 use mathlib.Core.List.{List, _++_}
-use mathlib.Core.Logic.{_⊎_, inl, inr}
-use Prim.Native.Nat.{ℕ, zero, suc, _+_, _-_, _*_, _/_, _%_, _≤_, _<_}
-use native.Mathlib.Nat.{mul-le-mul-right, mod-lt, div-add-mod', eq-or-lt-of-le}
+use Prim.Native.Nat.{ℕ, zero, suc, _+_, _*_, _/_, _%_, _≤_, _<_}
+use native.Mathlib.Nat.{mul-le-mul-right, mod-lt, div-add-mod'}
 use native.Mathlib.Omega.{arith}
 use lib.Arith.{digits-mod}
 use lib.ListN.{length, take, drop, length-append, length-drop}

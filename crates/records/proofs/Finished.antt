@@ -3,7 +3,7 @@ use mathlib.Core.Path.{_≡_, refl, sym, ap, _∙_}
 use mathlib.Core.Bool.{Bool, true, false, cond}
 use mathlib.Core.List.{List}
 use Prim.Native.Nat.{ℕ, suc, _+_, _-_, _*_, _≤_, _<_}
-use native.Mathlib.Nat.{mul-le-mul-right, zero-mul, zero-add}
+use native.Mathlib.Nat.{mul-le-mul-right, zero-mul}
 use native.Mathlib.Omega.{arith}
 use borrow.Author.Tests.{ltb-true, ltb-false}
 use lib.Dec.{ltb}
@@ -11,19 +11,13 @@ use lib.IntN.{ℤ, pos}
 use lib.ListN.{length, getD}
 use Rattle.wrap32.proofs.Laws.{of-cond}
 use Rattle.wrap32.specs.Cut.{edgeDetail}
-use Rattle.lists.specs.Lists.{part, laid}
+use Rattle.lists.specs.Lists.{part}
 use Rattle.lists.proofs.Tab.{length-tab, length-put, tab-same, tab-part, getD-part}
 use Rattle.lists.proofs.Put.{put-start}
 use Rattle.lists.proofs.Part.{part-put-within, part-put-below, part-put-above}
-use Rattle.lists.proofs.Laid.{laid-same}
-use Rattle.format.specs.Packets.{payloadAt}
-use Rattle.format.specs.Coefficients.{recordValues}
 use Rattle.lifting.specs.Lift.{edgeAt, edgeRow, sumAt, sumRow}
 use Rattle.records.specs.Finished.{ends, edged, edgedRows, finishedBy}
 use Rattle.records.specs.declared.Finish.{Finish}
-use Rattle.records.specs.declared.Walked.{Walked}
-use Rattle.records.specs.Record.{valuesBy}
-use Rattle.records.proofs.Packet.{values-all}
 
 -- where no row gets E, nothing is done
 pub finished-none : (f : Finish) (cols i : ℕ) (l : List ℤ) → f .sums ≡ false → f .count ≡ 0 → finishedBy f cols i l ≡ l
@@ -100,11 +94,3 @@ module _ (f : Finish) (cols i : ℕ) (l : List ℤ) (room : (f .first + f .count
             let m = mul-le-mul-right cols (ltb-false j (f .first + f .count) q) in
             let e = length-tab n (edgeAt (f .odd) (part l a n)) in
             part-put-above l a run fits (j * cols) cols (omega (arith, m, e))
-
--- a walk from the first record on finishes document 01's records
-module _ (p : List ℕ) (m cols : ℕ) (v : Walked) (o : v .offset ≡ payloadAt p 0) (z : v .stopped ≡ 0) where
-  pub packet-finished : (f : Finish) (at : ℕ → ℕ) (work : List ℤ) (n : ℕ)
-      → laid at (λ k. finishedBy f cols (0 + k) (valuesBy p m cols 0 v k)) work n ≡ laid at (λ k. finishedBy f cols k (recordValues p m cols k)) work n
-  packet-finished f at work n =
-      laid-same at at (λ k. finishedBy f cols (0 + k) (valuesBy p m cols 0 v k)) (λ k. finishedBy f cols k (recordValues p m cols k)) work n (λ k _. refl)
-      (λ k _. ap (λ (i : ℕ). finishedBy f cols i (valuesBy p m cols 0 v k)) (zero-add k) ∙ ap (finishedBy f cols k) (values-all p m cols v o z k))

@@ -1,22 +1,20 @@
 -- The way through a tile, step by step: records laid, a packet done, green's averages, the planes. Assumes nothing.
-use mathlib.Core.Path.{_≡_, refl, sym, ap, _∙_, subst}
-use mathlib.Core.Bool.{Bool, true, false, cond}
+use mathlib.Core.Path.{_≡_, sym, ap, _∙_, subst}
 use mathlib.Core.List.{List}
 use mathlib.Core.Logic.{_⊎_, inl, inr, ⊎-elim}
-use Prim.Native.Nat.{ℕ, zero, suc, _+_, _-_, _*_, _/_, _%_, _≤_, _<_}
+use Prim.Native.Nat.{ℕ, zero, suc, _+_, _*_, _/_, _%_, _≤_, _<_}
 use native.Mathlib.Nat.{eq-or-lt-of-le, zero-add}
 use native.Mathlib.Omega.{arith}
-use lib.Dec.{ltb}
-use borrow.Author.Tests.{lt-ltb, le-ltb}
+use borrow.Author.Tests.{lt-ltb}
 use lib.IntN.{ℤ}
 use lib.ListN.{length}
-use Rattle.lists.specs.Lists.{Apart, part, rows, laid, Rung}
+use Rattle.lists.specs.Lists.{Apart, part, rows}
 use Rattle.lists.proofs.Rings.{rung-on, rung-out, rung-kept}
 use Rattle.lists.proofs.Rows.{length-rows, rows-same}
 use Rattle.lists.proofs.Tab.{length-tab}
 use Rattle.format.specs.Coefficients.{coefs}
 use Rattle.format.specs.Lifting.{Plane}
-use Rattle.format.specs.Sizes.{Colour, green, red, blue, Level, l1, l2, l3, Group, base, detail, final, number, multiplier, components, columns, planeRows, planeColumns}
+use Rattle.format.specs.Sizes.{Colour, green, red, blue, Level, l1, l2, l3, Group, base, detail, final, number, multiplier, components, columns, planeRows}
 use Rattle.format.specs.Synthesis.{outcome, bothGreens, flat, planes}
 use Rattle.format.specs.Table.{chosen}
 use Rattle.format.proofs.TableLaws.{chosen-in}
@@ -26,11 +24,11 @@ use Rattle.passes.specs.Plan.{line, unitOf, Fits}
 use Rattle.passes.proofs.PlaceLaws.{place-is}
 use Rattle.passes.proofs.PassLaws.{Same}
 use Rattle.green.specs.Green.{NearGreen}
-use Rattle.levels.specs.Placed.{packetIn, rowIn, outIn}
+use Rattle.levels.specs.Placed.{rowIn}
 use Rattle.levels.specs.Block.{stood, recordSize, recordLines, Stood, groupAt, Records, Lowered, Outcomes, Averaged}
 use Rattle.levels.proofs.Blocks.{group-room}
 use Rattle.levels.proofs.Stood.{stood-row}
-use Rattle.tile.specs.Packets.{packetGroup, packetIndex, groupIn, colourIn, Measured, packetLaid}
+use Rattle.tile.specs.Packets.{groupIn, colourIn, Measured, packetLaid}
 use Rattle.tile.specs.Going.{planeOf, averagesAt, passingAt, Going}
 use Rattle.tile.proofs.Numbers.{group-number}
 
@@ -217,7 +215,7 @@ module _ (s : List ℕ) (z : Plan) (fits : Fits z 0) where
           let x = chosen (z .guarded) y in
           let k = chosen-in (z .guarded) (z .n) (fits .0 .tall) y b in
           let place : 0 + x % (z .slots * 8) * (z .w / 2) ≡ rowIn (z .w) (z .slots) (groupAt z 0 final) final 0 x =
-              ap (λ (j : ℕ). 0 + j * (z .w / 2)) (sym (eight (x % (z .slots * 8)))) ∙ sym (place-is 0 8 1 (z .w / 2) 0 (x % (z .slots * 8))) in
+          ap (λ (j : ℕ). 0 + j * (z .w / 2)) (sym (eight (x % (z .slots * 8)))) ∙ sym (place-is 0 8 1 (z .w / 2) 0 (x % (z .slots * 8))) in
           ap (λ (a : ℕ). part work a (z .w / 2)) place
           ∙ stood-row (z .w) (z .slots) (groupAt z 0 final) final (fits .1 .some) (stood (z .guarded) (z .n) (coefs s) final green) work 0 x (omega arith) (g .begun (x / 8) (omega arith) (omega (arith, k)))
 

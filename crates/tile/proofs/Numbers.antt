@@ -1,11 +1,10 @@
 -- Groups and indices by their numbers, and the 13 packets. Assumes nothing.
-use mathlib.Core.Path.{_≡_, refl, sym, ap, _∙_}
+use mathlib.Core.Path.{_≡_, refl}
 use mathlib.Core.Bool.{Bool, true, false, cond}
-use mathlib.Core.List.{List}
-use Prim.Native.Nat.{ℕ, zero, suc, _+_, _*_, _/_, _%_, _≤_, _<_}
+use Prim.Native.Nat.{ℕ, zero, suc, _/_, _%_, _<_}
 use native.Mathlib.Omega.{arith}
 use lib.Dec.{ltb}
-use borrow.Author.Tests.{lt-ltb, le-ltb, ltb-true, ltb-false}
+use borrow.Author.Tests.{lt-ltb, ltb-true}
 use Rattle.wrap32.proofs.Laws.{of-cond}
 use Rattle.format.specs.Sizes.{Colour, l1, l2, l3, Group, base, detail, final, number, index}
 use Rattle.format.specs.Table.{mode}
@@ -45,9 +44,6 @@ group-number (detail l3) = refl
 group-number final = refl
 
 -- packet p below 13: its numbers are in range, and the tile has it
-packet-low : (p : ℕ) → p < 12 → (packetGroup p ≡ p % 4) × (packetIndex p ≡ p / 4)
-packet-low p h = rw (lt-ltb p 12 h) (refl, refl)
-
 pub packet-range : (p : ℕ) → p < 13 → (packetGroup p < 5) × (packetIndex p < 3)
 packet-range p h = (
   of-cond (λ (g : ℕ). g < 5) (ltb p 12) (p % 4) 4 (λ _. omega arith) (λ _. omega arith),

@@ -1,8 +1,8 @@
 -- From a stream that no check refused to what decoding one of its packets asks and gives. Assumes nothing.
 use mathlib.Core.Path.{_≡_, refl, sym, ap, _∙_}
 use mathlib.Core.List.{List}
-use Prim.Native.Nat.{ℕ, _+_, _*_, _/_, _%_, _^_, _≤_, _<_}
-use native.Mathlib.Nat.{zero-add, mul-le-mul-right}
+use Prim.Native.Nat.{ℕ, _+_, _*_, _%_, _^_, _≤_, _<_}
+use native.Mathlib.Nat.{zero-add}
 use native.Mathlib.Numerals.{add-one}
 use native.Mathlib.Omega.{arith}
 use lib.IntN.{ℤ}
@@ -11,8 +11,7 @@ use Rattle.lists.specs.Lists.{laid}
 use Rattle.lists.proofs.Laid.{laid-same}
 use Rattle.format.specs.Coefficients.{recordValues, coefs, packetStopped, groupStopped, planeStopped, stoppedOf}
 use Rattle.format.specs.Packets.{sum, packetStart, packetLength, packetOf, kind, blocks, payloadAt}
-use Rattle.format.specs.Sizes.{Colour, index, l1, l2, l3, Group, base, detail, final, number, multiplier, components, columns, stripes}
-use Rattle.format.specs.Strip.{width, codedHeight}
+use Rattle.format.specs.Sizes.{Colour, index, l1, l2, l3, Group, base, detail, final, number, multiplier, components, columns}
 use Rattle.format.proofs.Accepted.{Good, PacketOk}
 use Rattle.passes.specs.declared.Plan.{Plan}
 use Rattle.passes.specs.Plan.{unitOf, Fits}
@@ -23,7 +22,7 @@ use Rattle.records.specs.Finished.{finishedBy}
 use Rattle.records.specs.Record.{walkedBy, valuesBy}
 use Rattle.records.proofs.Packet.{values-all, packet-stopped}
 use Rattle.records.proofs.StoppedLaws.{stopped-lt}
-use Rattle.levels.specs.Block.{stood, recordSize, recordLines, groupAt}
+use Rattle.levels.specs.Block.{stood, recordLines, groupAt}
 use Rattle.levels.proofs.Blocks.{group-room}
 use Rattle.tile.specs.Packets.{packetGroup, packetIndex, groupIn, colourIn, Measured, heldOf, finishOf, packetLaid}
 use Rattle.tile.proofs.Numbers.{packet-range, number-in, index-in, packet-present}

@@ -12,7 +12,7 @@ use lib.IntN.{ℤ, pos}
 use lib.ListN.{length, getD}
 use mir.Syntax.{w16}
 use Rattle.wrap32.specs.Cut.{cut, edgeDetail}
-use Rattle.lists.specs.Lists.{part, rows}
+use Rattle.lists.specs.Lists.{part}
 use Rattle.lists.proofs.Rows.{rows-same, as-rows}
 use Rattle.lists.proofs.Tab.{tab-same, getD-part, part-tab}
 use Rattle.format.specs.Coefficients.{recordValues, coefs}
@@ -28,10 +28,9 @@ use Rattle.lifting.specs.Lift.{at, edgeRow, sumRow}
 use Rattle.passes.specs.declared.Plan.{Plan}
 use Rattle.passes.specs.Plan.{line}
 use Rattle.passes.proofs.Planes.{at-line}
-use Rattle.records.specs.declared.Finish.{Finish}
 use Rattle.records.specs.Finished.{ends, edged, finishedBy}
 use Rattle.records.proofs.Finished.{length-finished, finished-row, finished-sums, finished-none}
-use Rattle.levels.specs.Block.{edgeAt, stood, recordSize, recordRow, recordLines}
+use Rattle.levels.specs.Block.{edgeAt, stood, recordRow, recordLines}
 use Rattle.levels.proofs.Blocks.{base-line}
 use Rattle.tile.specs.Packets.{Measured, asIs, finishOf}
 

@@ -1,7 +1,7 @@
 -- The 13 packets of a tile in the order of document 01's checks: groups 0 to 3 of green, of red, of blue, then group 4. Where their records
 -- stand in the work slice of a whole tile, and how they are finished.
 use mathlib.Core.Path.{_≡_}
-use mathlib.Core.Bool.{Bool, true, false, cond}
+use mathlib.Core.Bool.{true, false, cond}
 use mathlib.Core.List.{List}
 use Prim.Native.Nat.{ℕ, _+_, _*_, _/_, _%_}
 use lib.Dec.{ltb}

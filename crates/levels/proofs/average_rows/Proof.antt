@@ -1,6 +1,5 @@
 -- `levels::average_rows` meets its contract. Assumes nothing.
-use mathlib.Core.Path.{_≡_, refl, _∙_}
-use native.Mathlib.Omega.{arith}
+use mathlib.Core.Path.{refl, _∙_}
 use Rattle.format.specs.Sizes.{l3}
 use Rattle.levels.proofs.Heights.{highs-3}
 use Rattle.levels.proofs.StepRows.{level-asks, level-gives}

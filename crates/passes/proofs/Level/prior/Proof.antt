@@ -1,6 +1,6 @@
 -- `passes::Level::prior` meets its contract. Assumes nothing.
-use mathlib.Core.Path.{_≡_}
 use Prim.Native.Nat.{_-_}
+use mathlib.Core.Path.{_≡_}
 use native.Mathlib.Omega.{arith}
 use borrow.Author.Needs.{needs}
 use Rattle.passes.proofs.Level.prior.Statement.{statement}
