@@ -1,4 +1,4 @@
--- The rows that go in as E are those of the first and the last record that `edgeAt` says. Assumes nothing.
+-- The rows that go in as E are those of the first and the last record that `asEdge` says. Assumes nothing.
 use mathlib.Core.Path.{_≡_, refl}
 use mathlib.Core.Bool.{Bool, true, false, cond}
 use mathlib.Core.Logic.{_≢_}
@@ -11,16 +11,17 @@ use Rattle.format.proofs.Exact.{Tall}
 use Rattle.format.specs.Sizes.{Level, l1, l2, l3, detail, multiplier}
 use Rattle.format.specs.Table.{height, highs, bandRows, Source, S, E, hl, lh, hh, plain, source, fromComponent, fromRow}
 use Rattle.format.specs.Table as table
-use Rattle.levels.specs.Block.{ends, edgeAt}
+use Rattle.lifting.specs.Lift.{ends}
+use Rattle.levels.specs.Block.{asEdge}
 
 -- whether a source has E applied
 abbrev pub isEdge : Source → Bool
 isEdge (S c r) = false
 isEdge (E c r) = true
 
--- `edgeAt` says it
+-- `asEdge` says it
 abbrev Says : Bool → ℕ → Level → Source → Type 0
-Says g n l o = edgeAt g n l (fromRow o / multiplier (detail l)) (fromComponent o) (fromRow o % multiplier (detail l)) ≡ isEdge o
+Says g n l o = asEdge g n l (fromRow o / multiplier (detail l)) (fromComponent o) (fromRow o % multiplier (detail l)) ≡ isEdge o
 
 ends-no : (t n : ℕ) → t ≢ 0 → t ≢ n → ends t n ≡ false
 ends-no t n a b = rw (ne-eqb t 0 a, ne-eqb t n b)
@@ -36,7 +37,7 @@ under false t n f = refl
 -- plain 2 and 3
 module _ (n : ℕ) (k : 1 ≤ n) where
   second : (b : table.Band) (y : ℕ) → y < 2 * n → Says false n l2 (plain 1 (2 * n) b y)
-  unfolding edgeAt
+  unfolding asEdge
   second hl y p = of-cond (Says false n l2) (ltb y 1) _ _ (λ _. refl) (λ _. of-cond (Says false n l2) (ltb y (2 * n - 1)) _ _ (λ _. refl) (λ _. refl))
   second lh y p =
       of-cond (Says false n l2) (ltb y 1) _ _ (λ _. refl) λ e.
@@ -53,7 +54,7 @@ module _ (n : ℕ) (k : 1 ≤ n) where
       rw (lt-ltb (r % 2) 1 j) (ends-yes (r / 2) n t))
 
   third : (b : table.Band) (y : ℕ) → y < 4 * n → Says false n l3 (plain 2 (4 * n) b y)
-  unfolding edgeAt
+  unfolding asEdge
   third hl y p = of-cond (Says false n l3) (ltb y 2) _ _ (λ _. refl) (λ _. of-cond (Says false n l3) (ltb y (4 * n - 2)) _ _ (λ _. refl) (λ _. refl))
   third lh y p =
       of-cond (Says false n l3) (ltb y 2) _ _ (λ _. refl) λ e.
@@ -70,7 +71,7 @@ module _ (n : ℕ) (k : 1 ≤ n) where
       rw (lt-ltb (r % 4) 2 j) (ends-yes (r / 4) n t))
 
 pub edge-where : (g : Bool) (n : ℕ) → Tall g n → (l : Level) (b : table.Band) (y : ℕ) → y < bandRows (height g n l) (highs g l (height g n l)) b → Says g n l (source g l (height g n l) b y)
-unfolding source edgeAt
+unfolding source asEdge
 edge-where false n k l1 hl y p = refl
 edge-where false n k l1 lh y p = of-cond (Says false n l1) (eqb (y + 1) n) _ _ (λ _. refl) (λ _. refl)
 edge-where false n k l1 hh y p = of-cond (Says false n l1) (eqb (y + 1) n) _ _ (λ _. refl) (λ _. refl)

@@ -23,7 +23,7 @@ use Rattle.format.proofs.Ranges.{multiplier-some}
 use Rattle.passes.specs.Plan.{line}
 use Rattle.passes.proofs.PlaceLaws.{place-is}
 use Rattle.levels.specs.Placed.{rowIn}
-use Rattle.levels.specs.Block.{edgeAt, stood, recordSize, recordRow, recordLines}
+use Rattle.levels.specs.Block.{asEdge, stood, recordSize, recordRow, recordLines}
 use Rattle.levels.proofs.Edges.{isEdge, edge-where}
 
 -- row t of component c in record q, of k components of m rows of w numbers
@@ -77,7 +77,7 @@ pub source-line : (g : Bool) (n : ℕ) → Tall g n → (l : Level) (i : Colour)
 unfolding stood
 source-line g n t l i v b y c p = by (source g l (height g n l) b y) (edge-where g n t l b y p)
   where
-    by : (o : Source) → edgeAt g n l (fromRow o / multiplier (detail l)) (fromComponent o) (fromRow o % multiplier (detail l)) ≡ isEdge o
+    by : (o : Source) → asEdge g n l (fromRow o / multiplier (detail l)) (fromComponent o) (fromRow o % multiplier (detail l)) ≡ isEdge o
         → line c (stood g n v (detail l) i (fromComponent o)) (fromRow o) ≡ line c (λ _ x. value (mode l i) o (v (detail l) i) x) y
     by (S d r) e = tab-same c _ _ (λ x _. ap (λ (t : Bool). cond t (edgeDetail (mode l i) (v (detail l) i d r x)) (v (detail l) i d r x)) e)
     by (E d r) e = tab-same c _ _ (λ x _. ap (λ (t : Bool). cond t (edgeDetail (mode l i) (v (detail l) i d r x)) (v (detail l) i d r x)) e)

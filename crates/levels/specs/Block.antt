@@ -13,26 +13,24 @@ use Rattle.format.specs.Lifting.{Plane}
 use Rattle.format.specs.Sizes.{Colour, Level, l1, l2, l3, Group, base, detail, final, multiplier, components, columns, planeRows}
 use Rattle.format.specs.Synthesis.{sumOf, ll2, ll3, outcome}
 use Rattle.format.specs.Table.{height, mode}
+use Rattle.lifting.specs.Lift.{ends}
 use Rattle.passes.specs.declared.Plan.{Plan}
 use Rattle.passes.specs.Plan.{line, unitOf}
 use Rattle.levels.specs.Placed.{packetIn, outIn}
 
 -- E belongs to a record: whether row j of component c goes in as E in record t. Only the first and the last record have such rows
-abbrev pub ends : ℕ → ℕ → Bool
-ends t n = cond (eqb t 0) true (eqb t n)
-
-unfoldable pub edgeAt : Bool → ℕ → Level → ℕ → ℕ → ℕ → Bool
-edgeAt g n l1 t c j = false
-edgeAt false n l2 t c j = cond (eqb c 1) (cond (ltb j 1) (ends t n) false) false
-edgeAt false n l3 t c j = cond (eqb c 1) (cond (ltb j 2) (ends t n) false) false
-edgeAt true n l2 t c j = cond (eqb c 0) (cond (eqb j 1) (eqb t 0) false) false
-edgeAt true n l3 t c j = cond (eqb c 0) (cond (eqb j 2) (ends t n) false) false
+unfoldable pub asEdge : Bool → ℕ → Level → ℕ → ℕ → ℕ → Bool
+asEdge g n l1 t c j = false
+asEdge false n l2 t c j = cond (eqb c 1) (cond (ltb j 1) (ends t n) false) false
+asEdge false n l3 t c j = cond (eqb c 1) (cond (ltb j 2) (ends t n) false) false
+asEdge true n l2 t c j = cond (eqb c 0) (cond (eqb j 1) (eqb t 0) false) false
+asEdge true n l3 t c j = cond (eqb c 0) (cond (eqb j 2) (ends t n) false) false
 
 -- a group's coefficients as they stand, finished: group 0's rows as running sums, those of groups 2 and 3 with E where it goes in
 unfoldable pub stood : Bool → ℕ → Coefs → Group → Colour → ℕ → Plane
 stood g n v base i c r x = sumOf (λ k. cut w16 (v base i c r k)) (suc x)
 stood g n v (detail l) i c r x =
-    cond (edgeAt g n l (r / multiplier (detail l)) c (r % multiplier (detail l))) (edgeDetail (mode l i) (v (detail l) i c r x)) (v (detail l) i c r x)
+    cond (asEdge g n l (r / multiplier (detail l)) c (r % multiplier (detail l))) (edgeDetail (mode l i) (v (detail l) i c r x)) (v (detail l) i c r x)
 stood g n v final i c r x = v final i c r x
 
 -- the numbers of a record of a group, and record t as a list: row after row, component after component

@@ -15,8 +15,8 @@ use Rattle.lists.specs.Lists.{part}
 use Rattle.lists.proofs.Tab.{length-tab, length-put, tab-same, tab-part, getD-part}
 use Rattle.lists.proofs.Put.{put-start}
 use Rattle.lists.proofs.Part.{part-put-within, part-put-below, part-put-above}
-use Rattle.lifting.specs.Lift.{edgeAt, edgeRow, sumAt, sumRow}
-use Rattle.records.specs.Finished.{ends, edged, edgedRows, finishedBy}
+use Rattle.lifting.specs.Lift.{edgeAt, edgeRow, sumAt, sumRow, ends}
+use Rattle.records.specs.Finished.{edged, edgedRows, finishedBy}
 use Rattle.records.specs.declared.Finish.{Finish}
 
 -- where no row gets E, nothing is done

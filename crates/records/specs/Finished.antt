@@ -1,17 +1,13 @@
 -- A record finished: its numbers as running sums, or some rows of the first and the last record with E.
 use Prim.Native.Nat.{ℕ, _+_, _*_}
-use mathlib.Core.Bool.{Bool, true, false, cond}
+use mathlib.Core.Bool.{Bool, false, cond}
 use mathlib.Core.List.{List}
-use lib.Dec.{ltb, eqb}
+use lib.Dec.{ltb}
 use lib.IntN.{ℤ}
 use lib.ListN.{length}
 use Rattle.lists.specs.Lists.{part, putAt}
-use Rattle.lifting.specs.Lift.{edgeRow, sumRow}
+use Rattle.lifting.specs.Lift.{edgeRow, ends, sumRow}
 use Rattle.records.specs.declared.Finish.{Finish}
-
--- record i is the first or the last
-abbrev pub ends : ℕ → ℕ → Bool
-ends i last = cond (eqb i 0) true (eqb i last)
 
 -- row j of record i gets E
 unfoldable pub edged : Finish → ℕ → ℕ → Bool

@@ -24,13 +24,13 @@ use Rattle.format.specs.Table.{mode}
 use Rattle.format.proofs.Lengths.{length-values}
 use Rattle.format.proofs.PlaceLaws.{open-sum}
 use Rattle.format.proofs.Ranges.{multiplier-some}
-use Rattle.lifting.specs.Lift.{at, edgeRow, sumRow}
+use Rattle.lifting.specs.Lift.{at, edgeRow, ends, sumRow}
 use Rattle.passes.specs.declared.Plan.{Plan}
 use Rattle.passes.specs.Plan.{line}
 use Rattle.passes.proofs.Planes.{at-line}
-use Rattle.records.specs.Finished.{ends, edged, finishedBy}
+use Rattle.records.specs.Finished.{edged, finishedBy}
 use Rattle.records.proofs.Finished.{length-finished, finished-row, finished-sums, finished-none}
-use Rattle.levels.specs.Block.{edgeAt, stood, recordRow, recordLines}
+use Rattle.levels.specs.Block.{asEdge, stood, recordRow, recordLines}
 use Rattle.levels.proofs.Blocks.{base-line}
 use Rattle.tile.specs.Packets.{Measured, asIs, finishOf}
 
@@ -47,8 +47,8 @@ first-alone : (b : Bool) → cond (cond b true b) true false ≡ b
 first-alone true = refl
 first-alone false = refl
 
-plain2 : (odd : Bool) (t n j : ℕ) → j < 6 → edged (record { sums = false; first = 2; count = 1; last = n; odd = odd }) t j ≡ edgeAt false n l2 t (j / 2) (j % 2)
-unfolding edged edgeAt
+plain2 : (odd : Bool) (t n j : ℕ) → j < 6 → edged (record { sums = false; first = 2; count = 1; last = n; odd = odd }) t j ≡ asEdge false n l2 t (j / 2) (j % 2)
+unfolding edged asEdge
 plain2 odd t n zero b = none (ends t n)
 plain2 odd t n (suc zero) b = none (ends t n)
 plain2 odd t n (suc (suc zero)) b = one (ends t n)
@@ -57,8 +57,8 @@ plain2 odd t n (suc (suc (suc (suc zero)))) b = none (ends t n)
 plain2 odd t n (suc (suc (suc (suc (suc zero))))) b = none (ends t n)
 plain2 odd t n (suc (suc (suc (suc (suc (suc j)))))) b = absurd (omega arith)
 
-plain3 : (odd : Bool) (t n j : ℕ) → j < 12 → edged (record { sums = false; first = 4; count = 2; last = n; odd = odd }) t j ≡ edgeAt false n l3 t (j / 4) (j % 4)
-unfolding edged edgeAt
+plain3 : (odd : Bool) (t n j : ℕ) → j < 12 → edged (record { sums = false; first = 4; count = 2; last = n; odd = odd }) t j ≡ asEdge false n l3 t (j / 4) (j % 4)
+unfolding edged asEdge
 plain3 odd t n zero b = none (ends t n)
 plain3 odd t n (suc zero) b = none (ends t n)
 plain3 odd t n (suc (suc zero)) b = none (ends t n)
@@ -73,8 +73,8 @@ plain3 odd t n (suc (suc (suc (suc (suc (suc (suc (suc (suc (suc zero)))))))))) 
 plain3 odd t n (suc (suc (suc (suc (suc (suc (suc (suc (suc (suc (suc zero))))))))))) b = none (ends t n)
 plain3 odd t n (suc (suc (suc (suc (suc (suc (suc (suc (suc (suc (suc (suc j)))))))))))) b = absurd (omega arith)
 
-guarded2 : (odd : Bool) (t n j : ℕ) → j < 6 → edged (record { sums = false; first = 1; count = 1; last = 0; odd = odd }) t j ≡ edgeAt true n l2 t (j / 2) (j % 2)
-unfolding edged edgeAt
+guarded2 : (odd : Bool) (t n j : ℕ) → j < 6 → edged (record { sums = false; first = 1; count = 1; last = 0; odd = odd }) t j ≡ asEdge true n l2 t (j / 2) (j % 2)
+unfolding edged asEdge
 guarded2 odd t n zero b = none (ends t 0)
 guarded2 odd t n (suc zero) b = first-alone (eqb t 0)
 guarded2 odd t n (suc (suc zero)) b = none (ends t 0)
@@ -83,8 +83,8 @@ guarded2 odd t n (suc (suc (suc (suc zero)))) b = none (ends t 0)
 guarded2 odd t n (suc (suc (suc (suc (suc zero))))) b = none (ends t 0)
 guarded2 odd t n (suc (suc (suc (suc (suc (suc j)))))) b = absurd (omega arith)
 
-guarded3 : (odd : Bool) (t n j : ℕ) → j < 12 → edged (record { sums = false; first = 2; count = 1; last = n; odd = odd }) t j ≡ edgeAt true n l3 t (j / 4) (j % 4)
-unfolding edged edgeAt
+guarded3 : (odd : Bool) (t n j : ℕ) → j < 12 → edged (record { sums = false; first = 2; count = 1; last = n; odd = odd }) t j ≡ asEdge true n l3 t (j / 4) (j % 4)
+unfolding edged asEdge
 guarded3 odd t n zero b = none (ends t n)
 guarded3 odd t n (suc zero) b = none (ends t n)
 guarded3 odd t n (suc (suc zero)) b = one (ends t n)
@@ -99,20 +99,20 @@ guarded3 odd t n (suc (suc (suc (suc (suc (suc (suc (suc (suc (suc zero)))))))))
 guarded3 odd t n (suc (suc (suc (suc (suc (suc (suc (suc (suc (suc (suc zero))))))))))) b = none (ends t n)
 guarded3 odd t n (suc (suc (suc (suc (suc (suc (suc (suc (suc (suc (suc (suc j)))))))))))) b = absurd (omega arith)
 
-second : (g : Bool) (n t j : ℕ) → j < 6 → edged (record { sums = false; first = cond g 1 2; count = 1; last = cond g 0 n; odd = false }) t j ≡ edgeAt g n l2 t (j / 2) (j % 2)
+second : (g : Bool) (n t j : ℕ) → j < 6 → edged (record { sums = false; first = cond g 1 2; count = 1; last = cond g 0 n; odd = false }) t j ≡ asEdge g n l2 t (j / 2) (j % 2)
 second false n t j b = plain2 false t n j b
 second true n t j b = guarded2 false t n j b
 
-third : (odd g : Bool) (n t j : ℕ) → j < 12 → edged (record { sums = false; first = cond g 2 4; count = cond g 1 2; last = n; odd = odd }) t j ≡ edgeAt g n l3 t (j / 4) (j % 4)
+third : (odd g : Bool) (n t j : ℕ) → j < 12 → edged (record { sums = false; first = cond g 2 4; count = cond g 1 2; last = n; odd = odd }) t j ≡ asEdge g n l3 t (j / 4) (j % 4)
 third odd false n t j b = plain3 odd t n j b
 third odd true n t j b = guarded3 odd t n j b
 
-no-edges : (t j : ℕ) (g : Bool) (n : ℕ) → edged asIs t j ≡ edgeAt g n l1 t (j / 1) (j % 1)
-unfolding edged edgeAt
+no-edges : (t j : ℕ) (g : Bool) (n : ℕ) → edged asIs t j ≡ asEdge g n l1 t (j / 1) (j % 1)
+unfolding edged asEdge
 no-edges t j g n = rw (le-ltb j 0 (omega arith)) (none (ends t 0))
 
 -- at every level
-edges-same : (z : Plan) (l : Level) (i : Colour) (t j : ℕ) → j < 3 * multiplier (detail l) → edged (finishOf z (detail l) i) t j ≡ edgeAt (z .guarded) (z .n) l t (j / multiplier (detail l)) (j % multiplier (detail l))
+edges-same : (z : Plan) (l : Level) (i : Colour) (t j : ℕ) → j < 3 * multiplier (detail l) → edged (finishOf z (detail l) i) t j ≡ asEdge (z .guarded) (z .n) l t (j / multiplier (detail l)) (j % multiplier (detail l))
 edges-same z l1 i t j b = no-edges t j (z .guarded) (z .n)
 edges-same z l2 i t j b = second (z .guarded) (z .n) t j b
 edges-same z l3 i t j b = third (mode l3 i) (z .guarded) (z .n) t j b
@@ -207,10 +207,10 @@ module _ (s : List ℕ) (z : Plan) (m : Measured s z) (i : Colour) (t : ℕ) whe
       let r = t * k + j % k in
       let small = mod-lt j (multiplier-some (detail l)) in
       let p = coefs s (detail l) i (j / k) in
-      let edge = edges-same z l i t j b ∙ (λ q. edgeAt (z .guarded) (z .n) l (sym (digits-div t small) q) (j / k) (sym (digits-mod t small) q)) in
+      let edge = edges-same z l i t j b ∙ (λ q. asEdge (z .guarded) (z .n) l (sym (digits-div t small) q) (j / k) (sym (digits-mod t small) q)) in
       finished-row f c t (read (detail l)) room j (unsummed l)
       ∙ (λ q. cond (edge q) (edgeRow c (odd-mode l q) (value-row s z m (detail l) i e t j b q)) (value-row s z m (detail l) i e t j b q))
-      ∙ edge-line (edgeAt (z .guarded) (z .n) l (r / k) (j / k) (r % k)) (mode l i) c p r)
+      ∙ edge-line (asEdge (z .guarded) (z .n) l (r / k) (j / k) (r % k)) (mode l i) c p r)
 
   base-stood : Kind base → finishedBy (finishOf z base i) (columns (z .w) base) t (read base) ≡ recordLines (z .w) base (stood (z .guarded) (z .n) (coefs s) base i) t
   unfolding stood
