@@ -9,6 +9,7 @@ use borrow.Author.Tests.{eqb-false, not-true}
 use lib.IntN.{ℤ, pos, natAbs}
 use mir.Syntax.{w16}
 use Rattle.wrap32.specs.Cut.{cut}
+use Rattle.wrap32.specs.Arithmetic.{wrapping}
 use Rattle.format.specs.Lifting.{Plane, Shape, SameOn}
 use Rattle.format.specs.Sizes.{Colour, green, red, blue, Level, l1, l2, l3, Group, base, detail, final, stripes, guarded, multiplier, columns, planeRows, planeColumns}
 use Rattle.format.specs.Coefficients.{Coefs}
@@ -90,11 +91,11 @@ planes-least true n t = omega arith
 
 module _ (g : Bool) (n w : ℕ) (t : Tall g n) (k : w % 16 ≡ 0) (i : Colour) where
   abbrev llAt : Coefs → Level → Plane
-  llAt v l1 = ll1 g n w i v
-  llAt v l2 = ll2 g n w i v
-  llAt v l3 = ll3 g n w i v
+  llAt v l1 = ll1 wrapping g n w i v
+  llAt v l2 = ll2 wrapping g n w i v
+  llAt v l3 = ll3 wrapping g n w i v
 
-  bands-fit : (v : Coefs) → Ranged v → (l : Level) (b : Band) → Fits (bands g l (height g n l) i (v (detail l) i) b)
+  bands-fit : (v : Coefs) → Ranged v → (l : Level) (b : Band) → Fits (bands wrapping g l (height g n l) i (v (detail l) i) b)
   bands-fit v f l b y x = value-fits (mode l i) (source g l (height g n l) b y) (v (detail l) i) (λ c. f .fits (detail l) i c) x
 
   llAt-fits : (v : Coefs) (l : Level) → Fits (llAt v l)
@@ -103,7 +104,7 @@ module _ (g : Bool) (n w : ℕ) (t : Tall g n) (k : w % 16 ≡ 0) (i : Colour) w
   llAt-fits v l2 = level-fits _ _ _ _ (shape g n l1 t) _ _
   llAt-fits v l3 = level-fits _ _ _ _ (shape g n l2 t) _ _
 
-  pub outcome-fits : (v : Coefs) → Fits (outcome g n w i v)
+  pub outcome-fits : (v : Coefs) → Fits (outcome wrapping g n w i v)
   unfolding outcome
   outcome-fits v = level-fits _ _ _ _ (shape g n l3 t) _ _
 
@@ -112,15 +113,15 @@ module _ (g : Bool) (n w : ℕ) (t : Tall g n) (k : w % 16 ≡ 0) (i : Colour) w
   Like u v = (m : Group) (c r x : ℕ) → T (levelled m) → GoesIn g n m i c r → x < columns w m → counted m (u m i c r x) ≡ counted m (v m i c r x)
 
   module _ (u v : Coefs) (e : Like u v) where
-    bands-like : (l : Level) (b : Band) → SameOn (bandRows (height g n l) (highs g l (height g n l)) b) (columns w (detail l)) (bands g l (height g n l) i (u (detail l) i) b) (bands g l (height g n l) i (v (detail l) i) b)
+    bands-like : (l : Level) (b : Band) → SameOn (bandRows (height g n l) (highs g l (height g n l)) b) (columns w (detail l)) (bands wrapping g l (height g n l) i (u (detail l) i) b) (bands wrapping g l (height g n l) i (v (detail l) i) b)
     bands-like l b y x p q =
         same (mode l i) (source g l (height g n l) b y) (e (detail l) _ _ x tt (lifted l i b y p) q)
       where
-        same : (odd : Bool) (s : Source) → u (detail l) i (fromComponent s) (fromRow s) x ≡ v (detail l) i (fromComponent s) (fromRow s) x → value odd s (u (detail l) i) x ≡ value odd s (v (detail l) i) x
+        same : (odd : Bool) (s : Source) → u (detail l) i (fromComponent s) (fromRow s) x ≡ v (detail l) i (fromComponent s) (fromRow s) x → value wrapping odd s (u (detail l) i) x ≡ value wrapping odd s (v (detail l) i) x
         same odd (S c r) z = z
         same odd (E c r) z = rw z
 
-    step-like : (l : Level) → SameOn (height g n l) (columns w (detail l)) (llAt u l) (llAt v l) → SameOn (height g n l + highs g l (height g n l)) (columns w (detail l) + columns w (detail l)) (step g n w l i u (llAt u l)) (step g n w l i v (llAt v l))
+    step-like : (l : Level) → SameOn (height g n l) (columns w (detail l)) (llAt u l) (llAt v l) → SameOn (height g n l + highs g l (height g n l)) (columns w (detail l) + columns w (detail l)) (step wrapping g n w l i u (llAt u l)) (step wrapping g n w l i v (llAt v l))
     step-like l s = level-same _ _ _ _ (shape g n l t) _ _ _ _ s (bands-like l)
 
     ll1-like : SameOn (height g n l1) (w / 16) (llAt u l1) (llAt v l1)
@@ -135,14 +136,14 @@ module _ (g : Bool) (n w : ℕ) (t : Tall g n) (k : w % 16 ≡ 0) (i : Colour) w
     unfolding ll3
     ll3-like y x p q = step-like l2 ll2-like y x (omega (arith, rows-after g n l2 t)) (omega arith)
 
-    pub outcome-like : SameOn (planeRows g n) (w / 2) (outcome g n w i u) (outcome g n w i v)
+    pub outcome-like : SameOn (planeRows g n) (w / 2) (outcome wrapping g n w i u) (outcome wrapping g n w i v)
     unfolding outcome
     outcome-like y x p q = step-like l3 ll3-like y x (omega (arith, rows-after g n l3 t)) (omega arith)
 
   -- ---- backward: from what has the outcome on its rows
-  module _ (v : Coefs) (f : Ranged v) (out : Plane) (s : SameOn (planeRows g n) (w / 2) out (outcome g n w i v)) where
+  module _ (v : Coefs) (f : Ranged v) (out : Plane) (s : SameOn (planeRows g n) (w / 2) out (outcome wrapping g n w i v)) where
     abbrev Got : Level → Type 0
-    Got l = SameOn (height g n l + highs g l (height g n l)) (columns w (detail l) + columns w (detail l)) (given g n w l out) (step g n w l i v (llAt v l))
+    Got l = SameOn (height g n l + highs g l (height g n l)) (columns w (detail l) + columns w (detail l)) (given g n w l out) (step wrapping g n w l i v (llAt v l))
 
     under : (l : Level) → Got l → SameOn (height g n l) (columns w (detail l)) (unstep g n w l (given g n w l out)) (llAt v l)
     under l r = ll-back _ _ _ _ (shape g n l t) (llAt v l) _ (given g n w l out) r (llAt-fits v l) (bands-fit v f l lh)
@@ -199,27 +200,27 @@ module _ (w H : ℕ) (a : Coded w H) where
   details : Coefs → Plane
   details v y = v final green 0 (chosen (guarded H) y)
 
-  green-read : (v : Coefs) → SameOn (planeRows (guarded H) (stripes H)) (w / 2 + w / 2) (readPlane w (planes w H v green)) (planeOf (guarded H) (stripes H) w v green)
+  green-read : (v : Coefs) → SameOn (planeRows (guarded H) (stripes H)) (w / 2 + w / 2) (readPlane w (planes wrapping w H v green)) (planeOf wrapping (guarded H) (stripes H) w v green)
   unfolding planes
   green-read v y x p q = read-flat (planeRows (guarded H) (stripes H)) w _ y x p (omega (arith, a .whole))
 
-  out-read : (v : Coefs) → Ranged v → (i : Colour) → SameOn (planeRows (guarded H) (stripes H)) (w / 2) (outOf (guarded H) (stripes H) w (planes w H v) i) (outcome (guarded H) (stripes H) w i v)
+  out-read : (v : Coefs) → Ranged v → (i : Colour) → SameOn (planeRows (guarded H) (stripes H)) (w / 2) (outOf (guarded H) (stripes H) w (planes wrapping w H v) i) (outcome wrapping (guarded H) (stripes H) w i v)
   unfolding outOf planes details
   out-read v f green =
-      l-back (planeRows (guarded H) (stripes H)) (w / 2) (outcome (guarded H) (stripes H) w green v) (details v) _ (green-read v)
+      l-back (planeRows (guarded H) (stripes H)) (w / 2) (outcome wrapping (guarded H) (stripes H) w green v) (details v) _ (green-read v)
       (outcome-fits (guarded H) (stripes H) w tall (a .whole) green v) (λ y x. f .fits final green 0 (chosen (guarded H) y) x)
   out-read v f red = read-flat (planeRows (guarded H) (stripes H)) (w / 2) _
   out-read v f blue = read-flat (planeRows (guarded H) (stripes H)) (w / 2) _
 
-  picked-back : (v : Coefs) → Ranged v → (y x : ℕ) → y < planeRows (guarded H) (stripes H) → x < w / 2 → pickedBack (guarded H) (stripes H) w (planes w H v) green 0 (chosen (guarded H) y) x ≡ v final green 0 (chosen (guarded H) y) x
+  picked-back : (v : Coefs) → Ranged v → (y x : ℕ) → y < planeRows (guarded H) (stripes H) → x < w / 2 → pickedBack (guarded H) (stripes H) w (planes wrapping w H v) green 0 (chosen (guarded H) y) x ≡ v final green 0 (chosen (guarded H) y) x
   unfolding pickedBack details
   picked-back v f y x p q =
       seek-found false (λ j. S 0 (chosen (guarded H) j)) _ 0 (chosen (guarded H) y) x _ (planeRows (guarded H) (stripes H)) (pos 0)
-      (λ j b c z. d-back (planeRows (guarded H) (stripes H)) (w / 2) (outcome (guarded H) (stripes H) w green v) (details v) _ (green-read v) (λ k l. f .fits final green 0 (chosen (guarded H) k) l) j x b q ∙ ap (λ (r : ℕ). v final green 0 r x) z)
+      (λ j b c z. d-back (planeRows (guarded H) (stripes H)) (w / 2) (outcome wrapping (guarded H) (stripes H) w green v) (details v) _ (green-read v) (λ k l. f .fits final green 0 (chosen (guarded H) k) l) j x b q ∙ ap (λ (r : ℕ). v final green 0 r x) z)
       y p refl refl
 
   -- every coefficient of a row that goes in, as it counts
-  pub exact : (v : Coefs) → Ranged v → (m : Group) (i : Colour) (c r x : ℕ) → GoesIn (guarded H) (stripes H) m i c r → x < columns w m → recover w H (planes w H v) m i c r x ≡ counted m (v m i c r x)
+  pub exact : (v : Coefs) → Ranged v → (m : Group) (i : Colour) (c r x : ℕ) → GoesIn (guarded H) (stripes H) m i c r → x < columns w m → recover w H (planes wrapping w H v) m i c r x ≡ counted m (v m i c r x)
   unfolding recover
   exact v f m i c r x (summed j y p) q =
       summed-back (guarded H) (stripes H) w tall (a .whole) i v f _ (out-read v f i) y x p q
@@ -232,7 +233,7 @@ module _ (w H : ℕ) (a : Coded w H) where
   SameCoefs u v = (m : Group) (i : Colour) (c r x : ℕ) → GoesIn (guarded H) (stripes H) m i c r → x < columns w m → counted m (u m i c r x) ≡ counted m (v m i c r x)
 
   abbrev pub SamePlanes : Coefs → Coefs → Type 0
-  SamePlanes u v = (i : Colour) → planes w H u i ≡ planes w H v i
+  SamePlanes u v = (i : Colour) → planes wrapping w H u i ≡ planes wrapping w H v i
 
   pub coefs-of-planes : (u v : Coefs) → Ranged u → Ranged v → SamePlanes u v → SameCoefs u v
   coefs-of-planes u v f g e m i c r x t q =
@@ -242,10 +243,10 @@ module _ (w H : ℕ) (a : Coded w H) where
   unfolding planes
   planes-of-coefs u v e i = flat-same (planeRows (guarded H) (stripes H)) (planeColumns w i) _ _ (by i)
     where
-      out : (i : Colour) → SameOn (planeRows (guarded H) (stripes H)) (w / 2) (outcome (guarded H) (stripes H) w i u) (outcome (guarded H) (stripes H) w i v)
+      out : (i : Colour) → SameOn (planeRows (guarded H) (stripes H)) (w / 2) (outcome wrapping (guarded H) (stripes H) w i u) (outcome wrapping (guarded H) (stripes H) w i v)
       out i = outcome-like (guarded H) (stripes H) w tall (a .whole) i u v (λ m c r x _ t q. e m i c r x t q)
 
-      by : (i : Colour) → SameOn (planeRows (guarded H) (stripes H)) (planeColumns w i) (planeOf (guarded H) (stripes H) w u i) (planeOf (guarded H) (stripes H) w v i)
+      by : (i : Colour) → SameOn (planeRows (guarded H) (stripes H)) (planeColumns w i) (planeOf wrapping (guarded H) (stripes H) w u i) (planeOf wrapping (guarded H) (stripes H) w v i)
       by green y x p q =
           greens-same (planeRows (guarded H) (stripes H)) (w / 2) _ _ _ _ (out green) (λ j k b d. e final green 0 (chosen (guarded H) j) k (picked j b) d) y x p (omega (arith, a .whole))
       by red y x p q = out red y x p q

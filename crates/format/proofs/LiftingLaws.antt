@@ -9,6 +9,7 @@ use borrow.Author.Tests.{eqb-true, eqb-false}
 use lib.IntN.{ℤ}
 use mir.Syntax.{w32}
 use mir.Val.{SFits}
+use Rattle.wrap32.specs.Arithmetic.{wrapping}
 use Rattle.wrap32.proofs.Laws.{of-cond, addW-fits, subW-fits, sub-add, add-sub}
 use Rattle.format.specs.Lifting.{Signal, weave, Lead, lowLeads, highLeads, join, lowPlaces, highPlaces, taken, added, lowOut, highOut, lift, highsOf, lowsOf, Shape, Same}
 
@@ -61,14 +62,14 @@ module _ (n m : ℕ) where
   high-places highLeads s t e p y h = p (2 * y) (⊎-elim (λ q. omega arith) (λ q. omega arith) (e .1))
 
   -- what is taken off a low is settled by the m highs, what is added to a high by the n results
-  taken-same : (d : Lead) (f g : Signal) → Shape d n m → Same m f g → Same n (taken d m f) (taken d m g)
+  taken-same : (d : Lead) (f g : Signal) → Shape d n m → Same m f g → Same n (taken wrapping d m f) (taken wrapping d m g)
   unfolding taken
   taken-same lowLeads f g e p y h = rw (p (y - 1) (omega arith), p y (omega arith))
   taken-same highLeads f g e p y h =
       let k : y < m = ⊎-elim (λ q. omega arith) (λ q. omega arith) (e .1) in
       rw (p y k, p (min (y + 1) (m - 1)) (omega arith))
 
-  added-same : (d : Lead) (f g : Signal) → Shape d n m → Same n f g → Same m (added d n f) (added d n g)
+  added-same : (d : Lead) (f g : Signal) → Shape d n m → Same n f g → Same m (added wrapping d n f) (added wrapping d n g)
   unfolding added
   added-same lowLeads f g e p y h = rw (p y (omega arith), p (min (y + 1) (n - 1)) (omega arith))
   added-same highLeads f g e p y h =
@@ -79,44 +80,44 @@ module _ (n m : ℕ) where
       rw (p (y - 1) (omega arith), p y z)
 
   -- lifting depends on no other place
-  pub lift-same : (d : Lead) (lo hi lo′ hi′ : Signal) → Shape d n m → Same n lo lo′ → Same m hi hi′ → Same (n + m) (lift d n m lo hi) (lift d n m lo′ hi′)
+  pub lift-same : (d : Lead) (lo hi lo′ hi′ : Signal) → Shape d n m → Same n lo lo′ → Same m hi hi′ → Same (n + m) (lift wrapping d n m lo hi) (lift wrapping d n m lo′ hi′)
   unfolding lift lowOut highOut
   lift-same d lo hi lo′ hi′ e p q = by d e lows highs
     where
-      lows : Same n (lowOut d m lo hi) (lowOut d m lo′ hi′)
+      lows : Same n (lowOut wrapping d m lo hi) (lowOut wrapping d m lo′ hi′)
       lows y h = rw (p y h, taken-same d hi hi′ e q y h)
 
-      highs : Same m (highOut d n (lowOut d m lo hi) hi) (highOut d n (lowOut d m lo′ hi′) hi′)
-      highs y h = rw (q y h, added-same d (lowOut d m lo hi) (lowOut d m lo′ hi′) e lows y h)
+      highs : Same m (highOut wrapping d n (lowOut wrapping d m lo hi) hi) (highOut wrapping d n (lowOut wrapping d m lo′ hi′) hi′)
+      highs y h = rw (q y h, added-same d (lowOut wrapping d m lo hi) (lowOut wrapping d m lo′ hi′) e lows y h)
 
       by : (d : Lead) {a b a′ b′ : Signal} → Shape d n m → Same n a a′ → Same m b b′ → Same (n + m) (join d a b) (join d a′ b′)
       by lowLeads {a} {b} {a′} {b′} e p q k h = weave-same n m a b a′ b′ (omega arith) (omega arith) p q k h
       by highLeads {a} {b} {a′} {b′} e p q k h =
           weave-same m n b a b′ a′ (⊎-elim (λ q. omega arith) (λ q. omega arith) (e .1)) (⊎-elim (λ q. omega arith) (λ q. omega arith) (e .1)) q p k (omega arith)
 
-pub lift-fits : (d : Lead) (n m : ℕ) (lo hi : Signal) (k : ℕ) → SFits w32 (lift d n m lo hi k)
+pub lift-fits : (d : Lead) (n m : ℕ) (lo hi : Signal) (k : ℕ) → SFits w32 (lift wrapping d n m lo hi k)
 unfolding lift lowOut highOut
 lift-fits lowLeads n m lo hi k = weave-fits _ _ (λ y. subW-fits _ _) (λ y. addW-fits _ _) k
 lift-fits highLeads n m lo hi k = weave-fits _ _ (λ y. addW-fits _ _) (λ y. subW-fits _ _) k
 
 -- whatever has the results on its n + m places gives the highs and the lows back
-module _ (d : Lead) (n m : ℕ) (lo hi out : Signal) (e : Shape d n m) (s : Same (n + m) out (lift d n m lo hi)) where
-  low-res : Same n (lowPlaces d out) (lowOut d m lo hi)
+module _ (d : Lead) (n m : ℕ) (lo hi out : Signal) (e : Shape d n m) (s : Same (n + m) out (lift wrapping d n m lo hi)) where
+  low-res : Same n (lowPlaces d out) (lowOut wrapping d m lo hi)
   unfolding lift
   low-res y h = low-places n m d out _ e s y h ∙ join-low d _ _ y
 
-  high-res : Same m (highPlaces d out) (highOut d n (lowOut d m lo hi) hi)
+  high-res : Same m (highPlaces d out) (highOut wrapping d n (lowOut wrapping d m lo hi) hi)
   unfolding lift
   high-res y h = high-places n m d out _ e s y h ∙ join-high d _ _ y
 
   pub undo-highs : ((k : ℕ) → k < m → SFits w32 (hi k)) → Same m (highsOf d n out) hi
   unfolding highsOf highOut
   undo-highs f y h =
-      rw (high-res y h, added-same n m d (lowPlaces d out) (lowOut d m lo hi) e low-res y h)
-      (sub-add (hi y) (added d n (lowOut d m lo hi) y) (f y h))
+      rw (high-res y h, added-same n m d (lowPlaces d out) (lowOut wrapping d m lo hi) e low-res y h)
+      (sub-add (hi y) (added wrapping d n (lowOut wrapping d m lo hi) y) (f y h))
 
   pub undo-lows : ((k : ℕ) → k < n → SFits w32 (lo k)) → ((k : ℕ) → k < m → SFits w32 (hi k)) → Same n (lowsOf d n m out) lo
   unfolding lowsOf lowOut
   undo-lows g f y h =
       rw (low-res y h, taken-same n m d (highsOf d n out) hi e (undo-highs f) y h)
-      (add-sub (lo y) (taken d m hi y) (g y h))
+      (add-sub (lo y) (taken wrapping d m hi y) (g y h))

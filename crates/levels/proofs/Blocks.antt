@@ -7,6 +7,7 @@ use Prim.Native.Nat.{ℕ, _+_, _*_, _/_, _%_, _≤_, _<_}
 use native.Mathlib.Nat.{zero-add}
 use native.Mathlib.Omega.{arith}
 use lib.IntN.{ℤ}
+use Rattle.wrap32.specs.Arithmetic.{wrapping}
 use Rattle.lists.specs.Lists.{Apart, part, rows, Rung, Gone}
 use Rattle.lists.proofs.Rings.{rung-kept}
 use Rattle.lists.proofs.Rows.{rows-same}
@@ -66,7 +67,7 @@ module _ (z : Plan) (at : ℕ) (fits : Fits z at) (v : Coefs) (i : Colour) where
   pub near-bands : (l : Level) (lo hi from count : ℕ) (work : List ℤ) → Stood z v (detail l) i (groupAt z at (detail l)) lo hi work
       → ((b : table.Band) (y : ℕ) → from ≤ y + 1 → y ≤ from + count → y < bandRows (height g (z .n) l) (highs g l (height g (z .n) l)) b → (lo ≤ fromRow (source g l (height g (z .n) l) b y) / multiplier (detail l)) × (fromRow (source g l (height g (z .n) l) b y) / multiplier (detail l) < hi))
       → (b : table.Band) (y : ℕ) → from ≤ y + 1 → y ≤ from + count → y < bandRows (height g (z .n) l) (highs g l (height g (z .n) l)) b
-      → part work (sourceIn g (z .w) (z .n) (z .slots) at l b y) (columns (z .w) (detail l)) ≡ line (columns (z .w) (detail l)) (bands g l (height g (z .n) l) i (v (detail l) i) b) y
+      → part work (sourceIn g (z .w) (z .n) (z .slots) at l b y) (columns (z .w) (detail l)) ≡ line (columns (z .w) (detail l)) (bands wrapping g l (height g (z .n) l) i (v (detail l) i) b) y
   near-bands l lo hi from count work r live b y p q t =
       let o = source g l (height g (z .n) l) b y in
       let h = live b y p q t in
@@ -75,7 +76,7 @@ module _ (z : Plan) (at : ℕ) (fits : Fits z at) (v : Coefs) (i : Colour) where
 
   -- level 1's ll, where group 0's records stand
   pub near-sums : (lo hi : ℕ) (work : List ℤ) → Stood z v base i (groupAt z at base) lo hi work → (y : ℕ) → lo ≤ y + start g → y + start g < hi
-      → part work (llIn g (z .w) (z .slots) at l1 y) (z .w / 16) ≡ line (z .w / 16) (ll1 g (z .n) (z .w) i v) y
+      → part work (llIn g (z .w) (z .slots) at l1 y) (z .w / 16) ≡ line (z .w / 16) (ll1 wrapping g (z .n) (z .w) i v) y
   near-sums lo hi work r y a b =
       let size : z .w / 16 ≡ 1 * 1 * (z .w / 16) = omega arith in
       let k = (y + start g) % z .slots in
@@ -89,7 +90,7 @@ module _ (z : Plan) (at : ℕ) (fits : Fits z at) (v : Coefs) (i : Colour) where
   module _ (all : z .n < z .slots) where
     whole-bands : (l : Level) (from count : ℕ) (work : List ℤ) → Stood z v (detail l) i (groupAt z at (detail l)) 0 (z .n + 1) work
         → (b : table.Band) (y : ℕ) → from ≤ y + 1 → y ≤ from + count → y < bandRows (height g (z .n) l) (highs g l (height g (z .n) l)) b
-        → part work (sourceIn g (z .w) (z .n) (z .slots) at l b y) (columns (z .w) (detail l)) ≡ line (columns (z .w) (detail l)) (bands g l (height g (z .n) l) i (v (detail l) i) b) y
+        → part work (sourceIn g (z .w) (z .n) (z .slots) at l b y) (columns (z .w) (detail l)) ≡ line (columns (z .w) (detail l)) (bands wrapping g l (height g (z .n) l) i (v (detail l) i) b) y
     whole-bands l from count work r =
         near-bands l 0 (z .n + 1) from count work r (λ b y _ _ t. (omega arith, record-in l b y t))
       where
@@ -113,10 +114,10 @@ module _ (z : Plan) (at : ℕ) (fits : Fits z at) (v : Coefs) (i : Colour) where
         (λ s k _ b. e s k (omega (arith, b, group-room z at (fits .0 .whole) m)))
 
     module _ (work a b : List ℤ) (r : Records z v i at 0 (z .n + 1) work) (one : Makes z at l1 (outIn (z .w) (z .slots) at l1) 0 (steps g (z .n) l1) work a) (two : Makes z at l2 (outIn (z .w) (z .slots) at l2) 0 (steps g (z .n) l2) a b) where
-      first-gone : Gone (outIn (z .w) (z .slots) at l1) (z .w / 8) (z .slots * 2) (line (z .w / 8) (ll2 g (z .n) (z .w) i v)) 0 (rowsBy g (z .n) l1 (0 + steps g (z .n) l1)) work a
+      first-gone : Gone (outIn (z .w) (z .slots) at l1) (z .w / 8) (z .slots * 2) (line (z .w / 8) (ll2 wrapping g (z .n) (z .w) i v)) 0 (rowsBy g (z .n) l1 (0 + steps g (z .n) l1)) work a
       unfolding ll2
       first-gone =
-          one (ll1 g (z .n) (z .w) i v) (bands g l1 (height g (z .n) l1) i (v (detail l1) i)) (record {
+          one (ll1 wrapping g (z .n) (z .w) i v) (bands wrapping g l1 (height g (z .n) l1) i (v (detail l1) i)) (record {
             lls = λ y _ _ t. near-sums 0 (z .n + 1) work (r .bases) y (omega arith) (start-below g (z .n) y t);
             bands = whole-bands l1 0 (steps g (z .n) l1) work (r .details l1);
           })
@@ -125,15 +126,15 @@ module _ (z : Plan) (at : ℕ) (fits : Fits z at) (v : Coefs) (i : Colour) where
       unfolding ll2
       seconds =
           rw (rows-after g (z .n) l1 (fits .0 .tall)) at
-          (made-whole l1 (outIn (z .w) (z .slots) at l1) (ll1 g (z .n) (z .w) i v) (bands g l1 (height g (z .n) l1) i (v (detail l1) i)) work a first-gone)
+          (made-whole l1 (outIn (z .w) (z .slots) at l1) (ll1 wrapping g (z .n) (z .w) i v) (bands wrapping g l1 (height g (z .n) l1) i (v (detail l1) i)) work a first-gone)
 
       first-beside : (s m : ℕ) → Apart s m (outIn (z .w) (z .slots) at l1) (4 * unitOf z) → part a s m ≡ part work s m
       first-beside s m o = first-gone .beside s m (rw (out-size z (fits .0 .whole) l1) o)
 
-      second-gone : Gone (outIn (z .w) (z .slots) at l2) (z .w / 4) (z .slots * 4) (line (z .w / 4) (ll3 g (z .n) (z .w) i v)) 0 (rowsBy g (z .n) l2 (0 + steps g (z .n) l2)) a b
+      second-gone : Gone (outIn (z .w) (z .slots) at l2) (z .w / 4) (z .slots * 4) (line (z .w / 4) (ll3 wrapping g (z .n) (z .w) i v)) 0 (rowsBy g (z .n) l2 (0 + steps g (z .n) l2)) a b
       unfolding ll3
       second-gone =
-          two (ll2 g (z .n) (z .w) i v) (bands g l2 (height g (z .n) l2) i (v (detail l2) i)) (record {
+          two (ll2 wrapping g (z .n) (z .w) i v) (bands wrapping g l2 (height g (z .n) l2) i (v (detail l2) i)) (record {
             lls = λ y _ _ t. seconds y (omega arith) t;
             bands = whole-bands l2 0 (steps g (z .n) l2) a (stood-kept (detail l2) work a (λ s k h. first-beside s k (inl h)) (r .details l2));
           })
@@ -150,13 +151,13 @@ module _ (z : Plan) (at : ℕ) (fits : Fits z at) (v : Coefs) (i : Colour) where
       lowered = record {
         thirds =
             rw (rows-after g (z .n) l2 (fits .0 .tall)) at
-            (made-whole l2 (outIn (z .w) (z .slots) at l2) (ll2 g (z .n) (z .w) i v) (bands g l2 (height g (z .n) l2) i (v (detail l2) i)) a b second-gone);
+            (made-whole l2 (outIn (z .w) (z .slots) at l2) (ll2 wrapping g (z .n) (z .w) i v) (bands wrapping g l2 (height g (z .n) l2) i (v (detail l2) i)) a b second-gone);
         beside = both-beside;
       }
 
     -- level 3 from there
     module _ (work b : List ℤ) (r : Records z v i at 0 (z .n + 1) work) (low : Lowered z v i at work b) where
-      pub near-third : (first : ℕ) → Near g (z .w) (z .n) (z .slots) at l3 first 0 (steps g (z .n) l3) (ll3 g (z .n) (z .w) i v) (bands g l3 (height g (z .n) l3) i (v (detail l3) i)) b
+      pub near-third : (first : ℕ) → Near g (z .w) (z .n) (z .slots) at l3 first 0 (steps g (z .n) l3) (ll3 wrapping g (z .n) (z .w) i v) (bands wrapping g l3 (height g (z .n) l3) i (v (detail l3) i)) b
       near-third first = record {
         lls = λ y _ _ t. low .thirds y (omega arith) t;
         bands = whole-bands l3 0 (steps g (z .n) l3) b (stood-kept (detail l3) work b (λ s k h. low .beside s k (inl h)) (r .details l3));
@@ -164,25 +165,25 @@ module _ (z : Plan) (at : ℕ) (fits : Fits z at) (v : Coefs) (i : Colour) where
 
       -- into a plane
       pub plane-whole : (plane : List ℤ) → ((ll : Plane) (d : table.Band → Plane) → Near g (z .w) (z .n) (z .slots) at l3 0 0 (steps g (z .n) l3) ll d b → plane ≡ rows (2 * steps g (z .n) l3) (λ k. outRow g (z .w) (z .n) l3 ll d (2 * 0 + k)))
-          → plane ≡ flat (planeRows g (z .n)) (z .w / 2) (outcome g (z .n) (z .w) i v)
+          → plane ≡ flat (planeRows g (z .n)) (z .w / 2) (outcome wrapping g (z .n) (z .w) i v)
       unfolding outcome
       plane-whole plane h =
           let e : 2 * steps g (z .n) l3 ≡ planeRows g (z .n) = omega (arith, rows-after g (z .n) l3 (fits .0 .tall), highs-3 g (z .n)) in
-          h (ll3 g (z .n) (z .w) i v) (bands g l3 (height g (z .n) l3) i (v (detail l3) i)) (near-third 0)
-          ∙ rows-same (2 * steps g (z .n) l3) _ (line (z .w / 2) (outcome g (z .n) (z .w) i v)) (λ k _. ap (line (z .w / 2) (outcome g (z .n) (z .w) i v)) (zero-add k))
-          ∙ ap (λ (k : ℕ). flat k (z .w / 2) (outcome g (z .n) (z .w) i v)) e
+          h (ll3 wrapping g (z .n) (z .w) i v) (bands wrapping g l3 (height g (z .n) l3) i (v (detail l3) i)) (near-third 0)
+          ∙ rows-same (2 * steps g (z .n) l3) _ (line (z .w / 2) (outcome wrapping g (z .n) (z .w) i v)) (λ k _. ap (line (z .w / 2) (outcome wrapping g (z .n) (z .w) i v)) (zero-add k))
+          ∙ ap (λ (k : ℕ). flat k (z .w / 2) (outcome wrapping g (z .n) (z .w) i v)) e
 
       -- into a ring behind the block
       module _ (out : ℕ) (after : List ℤ) (three : Makes z at l3 out 0 (steps g (z .n) l3) b after) where
-        third-gone : Gone out (z .w / 2) (z .slots * 8) (line (z .w / 2) (outcome g (z .n) (z .w) i v)) 0 (rowsBy g (z .n) l3 (0 + steps g (z .n) l3)) b after
+        third-gone : Gone out (z .w / 2) (z .slots * 8) (line (z .w / 2) (outcome wrapping g (z .n) (z .w) i v)) 0 (rowsBy g (z .n) l3 (0 + steps g (z .n) l3)) b after
         unfolding outcome
-        third-gone = three (ll3 g (z .n) (z .w) i v) (bands g l3 (height g (z .n) l3) i (v (detail l3) i)) (near-third 0)
+        third-gone = three (ll3 wrapping g (z .n) (z .w) i v) (bands wrapping g l3 (height g (z .n) l3) i (v (detail l3) i)) (near-third 0)
 
         pub outcomes-whole : Outcomes z v i out 0 (planeRows g (z .n)) after
         unfolding outcome
         outcomes-whole =
             rw (rows-after g (z .n) l3 (fits .0 .tall)) at
-            (made-whole l3 out (ll3 g (z .n) (z .w) i v) (bands g l3 (height g (z .n) l3) i (v (detail l3) i)) b after third-gone)
+            (made-whole l3 out (ll3 wrapping g (z .n) (z .w) i v) (bands wrapping g l3 (height g (z .n) l3) i (v (detail l3) i)) b after third-gone)
 
         pub outcomes-beside : (s m : ℕ) → Apart s m (outIn (z .w) (z .slots) at l1) (20 * unitOf z) → Apart s m out (64 * unitOf z) → part after s m ≡ part work s m
         outcomes-beside s m o p = third-gone .beside s m (rw (out-size z (fits .0 .whole) l3) p) ∙ low .beside s m o

@@ -8,6 +8,7 @@ use lib.Dec.{ltb}
 use borrow.Author.Tests.{ltb-true, ltb-false}
 use lib.IntN.{ℤ}
 use lib.ListN.{length}
+use Rattle.wrap32.specs.Arithmetic.{wrapping}
 use Rattle.lists.specs.Lists.{part, rows, putAt, Gone}
 use Rattle.lists.proofs.Laid.{laid-same}
 use Rattle.lists.proofs.Pairs.{pairs-gone, row-gone}
@@ -51,10 +52,10 @@ module _ (g : Bool) (w n s at : ℕ) (z : Sized g w n) (l : Level) (r : code.Lev
 
   -- row y of the outcome, by the band that leads
   abbrev made : Lead → ℕ → List ℤ
-  made d = line (2 * cols) (level d (height g n l) high cols ll b)
+  made d = line (2 * cols) (level wrapping d (height g n l) high cols ll b)
 
   made-out : made (leadOf (leads g l)) ≡ outRow g w n l ll b
-  made-out = (λ i y. line (next-columns w (z .whole) l i) (level (lead-is g l i) (height g n l) high cols ll b) y)
+  made-out = (λ i y. line (next-columns w (z .whole) l i) (level wrapping (lead-is g l i) (height g n l) high cols ll b) y)
 
   low-near : (k : ℕ) → first ≤ k → from ≤ k + 1 → k ≤ from + count → k < r .h → LowLine r high work ll b k
   low-near k a c d e =
@@ -67,8 +68,8 @@ module _ (g : Bool) (w n s at : ℕ) (z : Sized g w n) (l : Level) (r : code.Lev
       rw (f .cols)
       (ap (λ (a : ℕ). part work a cols) (f .lhs k e) ∙ near .bands lh k c d e, ap (λ (a : ℕ). part work a cols) (f .hhs k e) ∙ near .bands hh k c d e)
 
-  by-size : (d : Lead) (y : ℕ) → line (2 * r .c) (level d (r .h) high (r .c) ll b) y ≡ made d y
-  by-size d y = (λ i. line (2 * f .cols i) (level d (f .rows i) high (f .cols i) ll b) y)
+  by-size : (d : Lead) (y : ℕ) → line (2 * r .c) (level wrapping d (r .h) high (r .c) ll b) y ≡ made d y
+  by-size d y = (λ i. line (2 * f .cols i) (level wrapping d (f .rows i) high (f .cols i) ll b) y)
 
   most : r .h ≤ high
   most = omega (arith, f .rows, heights g n (z .tall) l .0)

@@ -11,7 +11,8 @@ use Rattle.lists.specs.Lists.{part}
 use Rattle.lists.proofs.Part.{part-part}
 use Rattle.lists.proofs.Rows.{row-rows}
 use Rattle.lists.proofs.Tab.{length-tab, tab-same}
-use Rattle.wrap32.specs.Cut.{edgeDetail}
+use Rattle.wrap32.specs.Arithmetic.{wrapping}
+use Rattle.wrap32.specs.Edge.{edgeDetail}
 use Rattle.format.specs.Coefficients.{Coefs}
 use Rattle.format.specs.Lifting.{Plane}
 use Rattle.format.specs.Sizes.{Colour, Level, Group, base, detail, multiplier, components, columns}
@@ -73,16 +74,16 @@ module _ (w s at : ℕ) (m : Group) (some : 1 ≤ s) (p : ℕ → Plane) (work :
 -- ---- what a level reads of them
 -- the rows that the table names, with E where it goes in
 pub source-line : (g : Bool) (n : ℕ) → Tall g n → (l : Level) (i : Colour) (v : Coefs) (b : table.Band) (y c : ℕ) → y < bandRows (height g n l) (highs g l (height g n l)) b
-    → line c (stood g n v (detail l) i (fromComponent (source g l (height g n l) b y))) (fromRow (source g l (height g n l) b y)) ≡ line c (bands g l (height g n l) i (v (detail l) i) b) y
+    → line c (stood g n v (detail l) i (fromComponent (source g l (height g n l) b y))) (fromRow (source g l (height g n l) b y)) ≡ line c (bands wrapping g l (height g n l) i (v (detail l) i) b) y
 unfolding stood
 source-line g n t l i v b y c p = by (source g l (height g n l) b y) (edge-where g n t l b y p)
   where
     by : (o : Source) → asEdge g n l (fromRow o / multiplier (detail l)) (fromComponent o) (fromRow o % multiplier (detail l)) ≡ isEdge o
-        → line c (stood g n v (detail l) i (fromComponent o)) (fromRow o) ≡ line c (λ _ x. value (mode l i) o (v (detail l) i) x) y
-    by (S d r) e = tab-same c _ _ (λ x _. ap (λ (t : Bool). cond t (edgeDetail (mode l i) (v (detail l) i d r x)) (v (detail l) i d r x)) e)
-    by (E d r) e = tab-same c _ _ (λ x _. ap (λ (t : Bool). cond t (edgeDetail (mode l i) (v (detail l) i d r x)) (v (detail l) i d r x)) e)
+        → line c (stood g n v (detail l) i (fromComponent o)) (fromRow o) ≡ line c (λ _ x. value wrapping (mode l i) o (v (detail l) i) x) y
+    by (S d r) e = tab-same c _ _ (λ x _. ap (λ (t : Bool). cond t (edgeDetail wrapping (mode l i) (v (detail l) i d r x)) (v (detail l) i d r x)) e)
+    by (E d r) e = tab-same c _ _ (λ x _. ap (λ (t : Bool). cond t (edgeDetail wrapping (mode l i) (v (detail l) i d r x)) (v (detail l) i d r x)) e)
 
 -- level 1's ll
-pub sums-line : (g : Bool) (n w : ℕ) (i : Colour) (v : Coefs) (y c : ℕ) → line c (stood g n v base i 0) (y + start g) ≡ line c (ll1 g n w i v) y
+pub sums-line : (g : Bool) (n w : ℕ) (i : Colour) (v : Coefs) (y c : ℕ) → line c (stood g n v base i 0) (y + start g) ≡ line c (ll1 wrapping g n w i v) y
 unfolding stood ll1
 sums-line g n w i v y c = refl

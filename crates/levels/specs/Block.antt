@@ -6,7 +6,9 @@ use Prim.Native.Nat.{ℕ, suc, _+_, _*_, _/_, _%_}
 use lib.Dec.{eqb, ltb}
 use lib.IntN.{ℤ}
 use mir.Syntax.{w16}
-use Rattle.wrap32.specs.Cut.{cut, edgeDetail}
+use Rattle.wrap32.specs.Cut.{cut}
+use Rattle.wrap32.specs.Arithmetic.{wrapping}
+use Rattle.wrap32.specs.Edge.{edgeDetail}
 use Rattle.lists.specs.Lists.{Apart, part, rows, Rung}
 use Rattle.format.specs.Coefficients.{Coefs}
 use Rattle.format.specs.Lifting.{Plane}
@@ -28,9 +30,9 @@ asEdge true n l3 t c j = cond (eqb c 0) (cond (eqb j 2) (ends t n) false) false
 
 -- a group's coefficients as they stand, finished: group 0's rows as running sums, those of groups 2 and 3 with E where it goes in
 unfoldable pub stood : Bool → ℕ → Coefs → Group → Colour → ℕ → Plane
-stood g n v base i c r x = sumOf (λ k. cut w16 (v base i c r k)) (suc x)
+stood g n v base i c r x = sumOf wrapping (λ k. cut w16 (v base i c r k)) (suc x)
 stood g n v (detail l) i c r x =
-    cond (asEdge g n l (r / multiplier (detail l)) c (r % multiplier (detail l))) (edgeDetail (mode l i) (v (detail l) i c r x)) (v (detail l) i c r x)
+    cond (asEdge g n l (r / multiplier (detail l)) c (r % multiplier (detail l))) (edgeDetail wrapping (mode l i) (v (detail l) i c r x)) (v (detail l) i c r x)
 stood g n v final i c r x = v final i c r x
 
 -- the numbers of a record of a group, and record t as a list: row after row, component after component
@@ -58,10 +60,10 @@ pub record Records (z : Plan) (v : Coefs) (i : Colour) (at lo hi : ℕ) (work : 
 
 -- rows lo to hi of ll of level 2, and of level 3
 abbrev pub Seconds : Plan → Coefs → Colour → ℕ → ℕ → ℕ → List ℤ → Type 0
-Seconds z v i at lo hi work = Rung (outIn (z .w) (z .slots) at l1) (z .w / 8) (z .slots * 2) (line (z .w / 8) (ll2 (z .guarded) (z .n) (z .w) i v)) lo hi work
+Seconds z v i at lo hi work = Rung (outIn (z .w) (z .slots) at l1) (z .w / 8) (z .slots * 2) (line (z .w / 8) (ll2 wrapping (z .guarded) (z .n) (z .w) i v)) lo hi work
 
 abbrev pub Thirds : Plan → Coefs → Colour → ℕ → ℕ → ℕ → List ℤ → Type 0
-Thirds z v i at lo hi work = Rung (outIn (z .w) (z .slots) at l2) (z .w / 4) (z .slots * 4) (line (z .w / 4) (ll3 (z .guarded) (z .n) (z .w) i v)) lo hi work
+Thirds z v i at lo hi work = Rung (outIn (z .w) (z .slots) at l2) (z .w / 4) (z .slots * 4) (line (z .w / 4) (ll3 wrapping (z .guarded) (z .n) (z .w) i v)) lo hi work
 
 -- levels 1 and 2 of a block are made: ll of level 3 stands whole, and beside the rings of both ll's nothing has changed
 pub record Lowered (z : Plan) (v : Coefs) (i : Colour) (at : ℕ) (work after : List ℤ) : Type 0 where
@@ -70,7 +72,7 @@ pub record Lowered (z : Plan) (v : Coefs) (i : Colour) (at : ℕ) (work after : 
 
 -- rows lo to hi of the outcome of the three levels, in a ring from `at` on
 abbrev pub Outcomes : Plan → Coefs → Colour → ℕ → ℕ → ℕ → List ℤ → Type 0
-Outcomes z v i at lo hi work = Rung at (z .w / 2) (z .slots * 8) (line (z .w / 2) (outcome (z .guarded) (z .n) (z .w) i v)) lo hi work
+Outcomes z v i at lo hi work = Rung at (z .w / 2) (z .slots * 8) (line (z .w / 2) (outcome wrapping (z .guarded) (z .n) (z .w) i v)) lo hi work
 
 -- all three levels of a block are made, the last into a ring from `out` on; beside it and the rings of both ll's nothing has changed
 pub record Averaged (z : Plan) (v : Coefs) (i : Colour) (at out : ℕ) (work after : List ℤ) : Type 0 where

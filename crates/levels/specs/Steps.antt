@@ -5,6 +5,7 @@ use mathlib.Core.List.{List}
 use Prim.Native.Nat.{ℕ, _+_, _-_, _*_, _≤_, _<_, min}
 use lib.Dec.{ltb}
 use lib.IntN.{ℤ}
+use Rattle.wrap32.specs.Arithmetic.{wrapping}
 use Rattle.lists.specs.Lists.{part, putAt, laid, Gone}
 use Rattle.format.specs.Lifting.{Plane}
 use Rattle.format.specs.Sizes.{Level, l1, l2, l3, Group, detail, final, multiplier, columns}
@@ -54,7 +55,7 @@ next l3 = final
 
 -- row y of the outcome
 abbrev pub outRow : Bool → ℕ → ℕ → Level → Plane → (table.Band → Plane) → ℕ → List ℤ
-outRow g w n l ll b y = line (columns w (next l)) (level (lead g l) (height g n l) (highs g l (height g n l)) (columns w (detail l)) ll b) y
+outRow g w n l ll b y = line (columns w (next l)) (level wrapping (lead g l) (height g n l) (highs g l (height g n l)) (columns w (detail l)) ll b) y
 
 -- the rows that `count` steps from step `from` on are made of stand in a block: of ll from row `first` on, and of the bands with E where it goes in
 pub record Near (g : Bool) (w n s at : ℕ) (l : Level) (first from count : ℕ) (ll : Plane) (b : table.Band → Plane) (work : List ℤ) : Type 0 where

@@ -7,7 +7,9 @@ use lib.IntN.{ℤ, pos}
 use lib.ListN.{getD}
 use lib.Signed.{shrZ}
 use mir.Syntax.{w16}
-use Rattle.wrap32.specs.Cut.{cut, addW, subW, edgeDetail}
+use Rattle.wrap32.specs.Cut.{cut, addW, subW}
+use Rattle.wrap32.specs.Arithmetic.{wrapping}
+use Rattle.wrap32.specs.Edge.{edgeDetail}
 use Rattle.lists.specs.Lists.{tab}
 use Rattle.format.specs.Synthesis.{sumOf}
 
@@ -66,13 +68,13 @@ abbrev pub ends : ℕ → ℕ → Bool
 ends i last = cond (eqb i 0) true (eqb i last)
 
 abbrev pub edgeAt : Bool → List ℤ → ℕ → ℤ
-edgeAt odd l x = edgeDetail odd (at l x)
+edgeAt odd l x = edgeDetail wrapping odd (at l x)
 
 abbrev pub edgeRow : ℕ → Bool → List ℤ → List ℤ
 edgeRow n odd l = tab n (edgeAt odd l)
 
 abbrev pub sumAt : List ℤ → ℕ → ℤ
-sumAt l x = sumOf (λ k. cut w16 (at l k)) (suc x)
+sumAt l x = sumOf wrapping (λ k. cut w16 (at l k)) (suc x)
 
 abbrev pub sumRow : ℕ → List ℤ → List ℤ
 sumRow n l = tab n (sumAt l)

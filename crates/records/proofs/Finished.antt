@@ -9,8 +9,9 @@ use borrow.Author.Tests.{ltb-true, ltb-false}
 use lib.Dec.{ltb}
 use lib.IntN.{ℤ, pos}
 use lib.ListN.{length, getD}
+use Rattle.wrap32.specs.Arithmetic.{wrapping}
 use Rattle.wrap32.proofs.Laws.{of-cond}
-use Rattle.wrap32.specs.Cut.{edgeDetail}
+use Rattle.wrap32.specs.Edge.{edgeDetail}
 use Rattle.lists.specs.Lists.{part}
 use Rattle.lists.proofs.Tab.{length-tab, length-put, tab-same, tab-part, getD-part}
 use Rattle.lists.proofs.Put.{put-start}
@@ -69,7 +70,7 @@ module _ (f : Finish) (cols i : ℕ) (l : List ℤ) (room : (f .first + f .count
         ap (λ (x : ℕ). part (edgedRows f cols l) x cols) e
         ∙ part-put-within l a run fits s cols (omega (arith, b, length-tab n (edgeAt (f .odd) (part l a n))))
         ∙ tab-part n s cols (edgeAt (f .odd) (part l a n)) b
-        ∙ tab-same cols _ (edgeAt (f .odd) old) (λ x c. ap (edgeDetail (f .odd)) (same s b e x c))
+        ∙ tab-same cols _ (edgeAt (f .odd) old) (λ x c. ap (edgeDetail wrapping (f .odd)) (same s b e x c))
       where
         same : (s : ℕ) → s + cols ≤ n → j * cols ≡ a + s → (x : ℕ) → x < cols → getD (part l a n) (s + x) (pos 0) ≡ getD old x (pos 0)
         same s b e x c =

@@ -12,7 +12,8 @@ use lib.Signed.{ltZ, remZ}
 use mir.Syntax.{w32}
 use mir.Val.{SFits, toZ, ofZ}
 use mir.ValLaws.{toZ-pos}
-use Rattle.wrap32.specs.Cut.{low, cut, wrap, signOf}
+use Rattle.wrap32.specs.Cut.{low, cut, wrap}
+use Rattle.wrap32.specs.Edge.{signOf}
 use Rattle.wrap32.proofs.Laws.{of-cond, cut-id, cut-add-l, low-neg32, less-some, odd-bit}
 use Rattle.rows.specs.Word.{scaledOf, signedOf, splitOf, quadOf}
 use Rattle.rows.specs.Stretch.{stretchOf, stretchQuad}

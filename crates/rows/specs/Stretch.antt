@@ -3,7 +3,8 @@ use mathlib.Core.Bool.{cond}
 use Prim.Native.Nat.{ℕ, _-_, _%_, _^_}
 use lib.Dec.{eqb}
 use lib.IntN.{ℤ, pos, natAbs, _+ℤ_, _*ℤ_}
-use Rattle.wrap32.specs.Cut.{wrap, signOf}
+use Rattle.wrap32.specs.Cut.{wrap}
+use Rattle.wrap32.specs.Edge.{signOf}
 use Rattle.rows.specs.declared.Quad.{Quad}
 
 -- a coefficient under a selector: scaled, and half a step further from 0, less 1 where it is odd

@@ -8,6 +8,7 @@ use native.Mathlib.Omega.{arith}
 use borrow.Author.Tests.{lt-ltb}
 use lib.IntN.{ℤ}
 use lib.ListN.{length}
+use Rattle.wrap32.specs.Arithmetic.{wrapping}
 use Rattle.lists.specs.Lists.{Apart, part, rows}
 use Rattle.lists.proofs.Rings.{rung-on, rung-out, rung-kept}
 use Rattle.lists.proofs.Rows.{length-rows, rows-same}
@@ -64,7 +65,7 @@ module _ (s : List ℕ) (z : Plan) (fits : Fits z 0) where
   averages-kept work after e =
       let d : z .w / 2 ≡ 8 * (z .w / 16) = omega (arith, fits .0 .whole) in
       let size : z .slots * 8 * (z .w / 2) ≡ 64 * unitOf z = rw d (omega arith) in
-      rung-kept (averagesAt z) (z .w / 2) (z .slots * 8) (line (z .w / 2) (outcome (z .guarded) (z .n) (z .w) green (coefs s))) 0 r work after (omega (arith, fits .1 .some))
+      rung-kept (averagesAt z) (z .w / 2) (z .slots * 8) (line (z .w / 2) (outcome wrapping (z .guarded) (z .n) (z .w) green (coefs s))) 0 r work after (omega (arith, fits .1 .some))
       (λ a k p q. e a k p (omega (arith, size, q)))
 
   -- ---- records of packet p
@@ -157,13 +158,13 @@ module _ (s : List ℕ) (z : Plan) (fits : Fits z 0) where
   -- ---- the ends of packets 3, 7, 11 and 12
   module _ (m : Measured s z) where
     -- red and blue, as the levels give them
-    red-is : flat r (z .w / 2) (outcome (z .guarded) (z .n) (z .w) red (coefs s)) ≡ planeOf s red
+    red-is : flat r (z .w / 2) (outcome wrapping (z .guarded) (z .n) (z .w) red (coefs s)) ≡ planeOf s red
     unfolding planes
-    red-is = (λ j. flat (planeRows (m .guard j) (m .tall j)) (m .wide j / 2) (outcome (m .guard j) (m .tall j) (m .wide j) red (coefs s)))
+    red-is = (λ j. flat (planeRows (m .guard j) (m .tall j)) (m .wide j / 2) (outcome wrapping (m .guard j) (m .tall j) (m .wide j) red (coefs s)))
 
-    blue-is : flat r (z .w / 2) (outcome (z .guarded) (z .n) (z .w) blue (coefs s)) ≡ planeOf s blue
+    blue-is : flat r (z .w / 2) (outcome wrapping (z .guarded) (z .n) (z .w) blue (coefs s)) ≡ planeOf s blue
     unfolding planes
-    blue-is = (λ j. flat (planeRows (m .guard j) (m .tall j)) (m .wide j / 2) (outcome (m .guard j) (m .tall j) (m .wide j) blue (coefs s)))
+    blue-is = (λ j. flat (planeRows (m .guard j) (m .tall j)) (m .wide j / 2) (outcome wrapping (m .guard j) (m .tall j) (m .wide j) blue (coefs s)))
 
     module _ (work after full full′ reds blues : List ℤ) where
       pub averages-end : Averaged z (coefs s) green 0 (averagesAt z) work after → Going s z 4 0 after full′ reds blues
@@ -180,7 +181,7 @@ module _ (s : List ℕ) (z : Plan) (fits : Fits z 0) where
       lowered-kept : (i : Colour) → Lowered z (coefs s) i 0 work after → Outcomes z (coefs s) green (averagesAt z) 0 r work → Outcomes z (coefs s) green (averagesAt z) 0 r after
       lowered-kept i l = averages-kept work after (λ a k p _. l .beside a k (inr (omega (arith, p))))
 
-      pub red-end : Going s z 7 (z .n + 1) work full reds blues → (reds′ : List ℤ) → reds′ ≡ flat r (z .w / 2) (outcome (z .guarded) (z .n) (z .w) red (coefs s)) → Lowered z (coefs s) red 0 work after → Going s z 8 0 after full′ reds′ blues
+      pub red-end : Going s z 7 (z .n + 1) work full reds blues → (reds′ : List ℤ) → reds′ ≡ flat r (z .w / 2) (outcome wrapping (z .guarded) (z .n) (z .w) red (coefs s)) → Lowered z (coefs s) red 0 work after → Going s z 8 0 after full′ reds′ blues
       red-end g reds′ e l = record {
         whole = λ k b _. absurd (omega (arith, b));
         begun = λ t _ b. absurd (omega (arith, b));
@@ -190,7 +191,7 @@ module _ (s : List ℕ) (z : Plan) (fits : Fits z 0) where
         green-done = λ h. absurd (omega (arith, h));
       }
 
-      pub blue-end : Going s z 11 (z .n + 1) work full reds blues → (blues′ : List ℤ) → blues′ ≡ flat r (z .w / 2) (outcome (z .guarded) (z .n) (z .w) blue (coefs s)) → Lowered z (coefs s) blue 0 work after → Going s z 12 0 after full′ reds blues′
+      pub blue-end : Going s z 11 (z .n + 1) work full reds blues → (blues′ : List ℤ) → blues′ ≡ flat r (z .w / 2) (outcome wrapping (z .guarded) (z .n) (z .w) blue (coefs s)) → Lowered z (coefs s) blue 0 work after → Going s z 12 0 after full′ reds blues′
       blue-end g blues′ e l = record {
         whole = λ k b _. absurd (omega (arith, b));
         begun = λ t _ b. absurd (omega (arith, b));
@@ -219,19 +220,19 @@ module _ (s : List ℕ) (z : Plan) (fits : Fits z 0) where
           ap (λ (a : ℕ). part work a (z .w / 2)) place
           ∙ stood-row (z .w) (z .slots) (groupAt z 0 final) final (fits .1 .some) (stood (z .guarded) (z .n) (coefs s) final green) work 0 x (omega arith) (g .begun (x / 8) (omega arith) (omega (arith, k)))
 
-      pub near-green : NearGreen (z .guarded) (z .w) (z .n) (z .slots) (averagesAt z) 0 0 r (outcome (z .guarded) (z .n) (z .w) green (coefs s)) used work
+      pub near-green : NearGreen (z .guarded) (z .w) (z .n) (z .slots) (averagesAt z) 0 0 r (outcome wrapping (z .guarded) (z .n) (z .w) green (coefs s)) used work
       near-green = record {
         averages = λ y _ _ b. g .averages (omega arith) y (omega arith) b;
         details = λ y _ _ b. detail-line y b;
       }
 
-      green-is : rows r (λ k. line (z .w) (bothGreens r (z .w / 2) (outcome (z .guarded) (z .n) (z .w) green (coefs s)) used) (0 + k)) ≡ planeOf s green
+      green-is : rows r (λ k. line (z .w) (bothGreens wrapping r (z .w / 2) (outcome wrapping (z .guarded) (z .n) (z .w) green (coefs s)) used) (0 + k)) ≡ planeOf s green
       unfolding planes
       green-is =
-          rows-same r _ (line (z .w) (bothGreens r (z .w / 2) (outcome (z .guarded) (z .n) (z .w) green (coefs s)) used)) (λ k _. ap (line (z .w) (bothGreens r (z .w / 2) (outcome (z .guarded) (z .n) (z .w) green (coefs s)) used)) (zero-add k))
-          ∙ (λ j. flat (planeRows (m .guard j) (m .tall j)) (m .wide j) (bothGreens (planeRows (m .guard j) (m .tall j)) (m .wide j / 2) (outcome (m .guard j) (m .tall j) (m .wide j) green (coefs s)) (λ y. coefs s final green 0 (chosen (m .guard j) y))))
+          rows-same r _ (line (z .w) (bothGreens wrapping r (z .w / 2) (outcome wrapping (z .guarded) (z .n) (z .w) green (coefs s)) used)) (λ k _. ap (line (z .w) (bothGreens wrapping r (z .w / 2) (outcome wrapping (z .guarded) (z .n) (z .w) green (coefs s)) used)) (zero-add k))
+          ∙ (λ j. flat (planeRows (m .guard j) (m .tall j)) (m .wide j) (bothGreens wrapping (planeRows (m .guard j) (m .tall j)) (m .wide j / 2) (outcome wrapping (m .guard j) (m .tall j) (m .wide j) green (coefs s)) (λ y. coefs s final green 0 (chosen (m .guard j) y))))
 
-      pub green-end : (after full′ : List ℤ) → Same (passingAt z) after work → full′ ≡ rows r (λ k. line (z .w) (bothGreens r (z .w / 2) (outcome (z .guarded) (z .n) (z .w) green (coefs s)) used) (0 + k)) → Going s z 13 0 after full′ reds blues
+      pub green-end : (after full′ : List ℤ) → Same (passingAt z) after work → full′ ≡ rows r (λ k. line (z .w) (bothGreens wrapping r (z .w / 2) (outcome wrapping (z .guarded) (z .n) (z .w) green (coefs s)) used) (0 + k)) → Going s z 13 0 after full′ reds blues
       green-end after full′ same e = record {
         whole = λ k _ b. absurd (omega (arith, b));
         begun = λ t _ b. absurd (omega (arith, b));

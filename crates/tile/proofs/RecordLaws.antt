@@ -11,7 +11,9 @@ use borrow.Author.Tests.{le-ltb}
 use lib.IntN.{ℤ, pos}
 use lib.ListN.{length, getD}
 use mir.Syntax.{w16}
-use Rattle.wrap32.specs.Cut.{cut, edgeDetail}
+use Rattle.wrap32.specs.Cut.{cut}
+use Rattle.wrap32.specs.Arithmetic.{wrapping}
+use Rattle.wrap32.specs.Edge.{edgeDetail}
 use Rattle.lists.specs.Lists.{part}
 use Rattle.lists.proofs.Rows.{rows-same, as-rows}
 use Rattle.lists.proofs.Tab.{tab-same, getD-part, part-tab}
@@ -153,8 +155,8 @@ module _ (s : List ℕ) (z : Plan) (m : Measured s z) (g : Group) (i : Colour) (
   by-rows l p e f = as-rows c (components g * k) l e ∙ rows-same (components g * k) (λ y. part l (y * c) c) (recordRow (z .w) g p t) f
 
 -- a row with E, or not
-edge-line : (b odd : Bool) (c : ℕ) (p : Plane) (r : ℕ) → cond b (edgeRow c odd (line c p r)) (line c p r) ≡ line c (λ r x. cond b (edgeDetail odd (p r x)) (p r x)) r
-edge-line true odd c p r = tab-same c _ _ (λ x h. ap (edgeDetail odd) (at-line c p r x h))
+edge-line : (b odd : Bool) (c : ℕ) (p : Plane) (r : ℕ) → cond b (edgeRow c odd (line c p r)) (line c p r) ≡ line c (λ r x. cond b (edgeDetail wrapping odd (p r x)) (p r x)) r
+edge-line true odd c p r = tab-same c _ _ (λ x h. ap (edgeDetail wrapping odd) (at-line c p r x h))
 edge-line false odd c p r = refl
 
 -- the rows with E lie in the record

@@ -3,6 +3,7 @@ use mathlib.Core.Path.{_≡_}
 use mathlib.Core.List.{List}
 use Prim.Native.Nat.{ℕ, _+_, _*_, _%_, _≤_, _<_}
 use lib.IntN.{ℤ}
+use Rattle.wrap32.specs.Arithmetic.{wrapping}
 use Rattle.format.specs.Coefficients.{coefs}
 use Rattle.format.specs.Sizes.{Colour, green, red, blue, Group, number, planeRows}
 use Rattle.format.specs.Strip.{width, codedHeight}
@@ -14,7 +15,7 @@ use Rattle.tile.specs.Packets.{groupIn, colourIn}
 
 -- the plane of an index of a stream
 abbrev pub planeOf : List ℕ → Colour → List ℤ
-planeOf s i = planes (width s) (codedHeight s) (coefs s) i
+planeOf s i = planes wrapping (width s) (codedHeight s) (coefs s) i
 
 -- where green's averages stand, behind the block; and the two rows of the final green in passing, behind them
 abbrev pub averagesAt : Plan → ℕ
