@@ -14,7 +14,7 @@ use Rattle.format.specs.Lifting.{Plane, Shape, SameOn}
 use Rattle.format.specs.Sizes.{Colour, green, red, blue, Level, l1, l2, l3, Group, base, detail, final, stripes, guarded, multiplier, columns, planeRows, planeColumns}
 use Rattle.format.specs.Coefficients.{Coefs}
 use Rattle.format.specs.Table.{start, height, lead, highs, Source, S, E, Band, hl, lh, hh, source, bandRows, mode, chosen, fromComponent, fromRow, GoesIn, summed, lifted, picked}
-use Rattle.format.specs.Synthesis.{value, bands, step, ll1, ll2, ll3, outcome, planeOf, planes}
+use Rattle.format.specs.Synthesis.{value, bands, step, ll1, ll2, ll3, llAt, outcome, planeOf, planes}
 use Rattle.format.specs.Recovery.{readPlane, back, differences, unstep, given, unband, summedBack, liftedBack, outOf, pickedBack, recover}
 use Rattle.format.proofs.LevelLaws.{Fits, level-fits, level-same, ll-back, band-back}
 use Rattle.format.proofs.GreenLaws.{greens-same, d-back, l-back}
@@ -56,7 +56,7 @@ tall-of H h = by (guarded H) refl
     by false e = omega arith
     by true e = omega (arith, eqb-false (H % 16) 0 (not-true _ e))
 
-shape : (g : Bool) (n : ℕ) (l : Level) → Tall g n → Shape (lead g l) (height g n l) (highs g l (height g n l))
+pub shape : (g : Bool) (n : ℕ) (l : Level) → Tall g n → Shape (lead g l) (height g n l) (highs g l (height g n l))
 shape false n l t = refl
 shape true n l1 t = (omega arith, inr refl)
 shape true n l2 t = (omega arith, inl refl)
@@ -90,15 +90,10 @@ planes-least false n t = omega arith
 planes-least true n t = omega arith
 
 module _ (g : Bool) (n w : ℕ) (t : Tall g n) (k : w % 16 ≡ 0) (i : Colour) where
-  abbrev llAt : Coefs → Level → Plane
-  llAt v l1 = ll1 wrapping g n w i v
-  llAt v l2 = ll2 wrapping g n w i v
-  llAt v l3 = ll3 wrapping g n w i v
-
   bands-fit : (v : Coefs) → Ranged v → (l : Level) (b : Band) → Fits (bands wrapping g l (height g n l) i (v (detail l) i) b)
   bands-fit v f l b y x = value-fits (mode l i) (source g l (height g n l) b y) (v (detail l) i) (λ c. f .fits (detail l) i c) x
 
-  llAt-fits : (v : Coefs) (l : Level) → Fits (llAt v l)
+  llAt-fits : (v : Coefs) (l : Level) → Fits (llAt wrapping g n w i v l)
   unfolding ll1 ll2 ll3
   llAt-fits v l1 = sums-fits g (v base i 0)
   llAt-fits v l2 = level-fits _ _ _ _ (shape g n l1 t) _ _
@@ -121,18 +116,18 @@ module _ (g : Bool) (n w : ℕ) (t : Tall g n) (k : w % 16 ≡ 0) (i : Colour) w
         same odd (S c r) z = z
         same odd (E c r) z = rw z
 
-    step-like : (l : Level) → SameOn (height g n l) (columns w (detail l)) (llAt u l) (llAt v l) → SameOn (height g n l + highs g l (height g n l)) (columns w (detail l) + columns w (detail l)) (step wrapping g n w l i u (llAt u l)) (step wrapping g n w l i v (llAt v l))
-    step-like l s = level-same _ _ _ _ (shape g n l t) _ _ _ _ s (bands-like l)
+    step-like : (l : Level) → SameOn (height g n l) (columns w (detail l)) (llAt wrapping g n w i u l) (llAt wrapping g n w i v l) → SameOn (height g n l + highs g l (height g n l)) (columns w (detail l) + columns w (detail l)) (step wrapping g n w l i u (llAt wrapping g n w i u l)) (step wrapping g n w l i v (llAt wrapping g n w i v l))
+    step-like l s = level-same _ _ _ _ (shape g n l t) _ _ wrapping _ _ s (bands-like l)
 
-    ll1-like : SameOn (height g n l1) (w / 16) (llAt u l1) (llAt v l1)
+    ll1-like : SameOn (height g n l1) (w / 16) (llAt wrapping g n w i u l1) (llAt wrapping g n w i v l1)
     unfolding ll1
     ll1-like = sums-same g (u base i 0) (v base i 0) (height g n l1) (w / 16) (λ y x p q. e base 0 (y + start g) x tt (summed i y p) q)
 
-    ll2-like : SameOn (height g n l2) (w / 8) (llAt u l2) (llAt v l2)
+    ll2-like : SameOn (height g n l2) (w / 8) (llAt wrapping g n w i u l2) (llAt wrapping g n w i v l2)
     unfolding ll2
     ll2-like y x p q = step-like l1 ll1-like y x (omega (arith, rows-after g n l1 t)) (omega arith)
 
-    ll3-like : SameOn (height g n l3) (w / 4) (llAt u l3) (llAt v l3)
+    ll3-like : SameOn (height g n l3) (w / 4) (llAt wrapping g n w i u l3) (llAt wrapping g n w i v l3)
     unfolding ll3
     ll3-like y x p q = step-like l2 ll2-like y x (omega (arith, rows-after g n l2 t)) (omega arith)
 
@@ -143,10 +138,10 @@ module _ (g : Bool) (n w : ℕ) (t : Tall g n) (k : w % 16 ≡ 0) (i : Colour) w
   -- ---- backward: from what has the outcome on its rows
   module _ (v : Coefs) (f : Ranged v) (out : Plane) (s : SameOn (planeRows g n) (w / 2) out (outcome wrapping g n w i v)) where
     abbrev Got : Level → Type 0
-    Got l = SameOn (height g n l + highs g l (height g n l)) (columns w (detail l) + columns w (detail l)) (given g n w l out) (step wrapping g n w l i v (llAt v l))
+    Got l = SameOn (height g n l + highs g l (height g n l)) (columns w (detail l) + columns w (detail l)) (given g n w l out) (step wrapping g n w l i v (llAt wrapping g n w i v l))
 
-    under : (l : Level) → Got l → SameOn (height g n l) (columns w (detail l)) (unstep g n w l (given g n w l out)) (llAt v l)
-    under l r = ll-back _ _ _ _ (shape g n l t) (llAt v l) _ (given g n w l out) r (llAt-fits v l) (bands-fit v f l lh)
+    under : (l : Level) → Got l → SameOn (height g n l) (columns w (detail l)) (unstep g n w l (given g n w l out)) (llAt wrapping g n w i v l)
+    under l r = ll-back _ _ _ _ (shape g n l t) (llAt wrapping g n w i v l) _ (given g n w l out) r (llAt-fits v l) (bands-fit v f l lh)
 
     got3 : Got l3
     unfolding outcome
@@ -169,7 +164,7 @@ module _ (g : Bool) (n w : ℕ) (t : Tall g n) (k : w % 16 ≡ 0) (i : Colour) w
     gives : (l : Level) (b : Band) (c r x : ℕ) → x < columns w (detail l) → (y : ℕ) → y < bandRows (height g n l) (highs g l (height g n l)) b → fromComponent (source g l (height g n l) b y) ≡ c → fromRow (source g l (height g n l) b y) ≡ r → back (mode l i) (source g l (height g n l) b y) (unband g n w l (given g n w l out) b y x) ≡ v (detail l) i c r x
     gives l b c r x q y p a z =
         let o = source g l (height g n l) b y in
-        ap (back (mode l i) o) (band-back _ _ _ _ (shape g n l t) (llAt v l) _ (given g n w l out) (got l) (bands-fit v f l) b y x p q)
+        ap (back (mode l i) o) (band-back _ _ _ _ (shape g n l t) (llAt wrapping g n w i v l) _ (given g n w l out) (got l) (bands-fit v f l) b y x p q)
         ∙ value-back (mode l i) o (v (detail l) i) x (f .small l i (fromComponent o) (fromRow o) x)
         ∙ (λ j. v (detail l) i (a j) (z j) x)
 
@@ -248,7 +243,7 @@ module _ (w H : ℕ) (a : Coded w H) where
 
       by : (i : Colour) → SameOn (planeRows (guarded H) (stripes H)) (planeColumns w i) (planeOf wrapping (guarded H) (stripes H) w u i) (planeOf wrapping (guarded H) (stripes H) w v i)
       by green y x p q =
-          greens-same (planeRows (guarded H) (stripes H)) (w / 2) _ _ _ _ (out green) (λ j k b d. e final green 0 (chosen (guarded H) j) k (picked j b) d) y x p (omega (arith, a .whole))
+          greens-same wrapping (planeRows (guarded H) (stripes H)) (w / 2) _ _ _ _ (out green) (λ j k b d. e final green 0 (chosen (guarded H) j) k (picked j b) d) y x p (omega (arith, a .whole))
       by red y x p q = out red y x p q
       by blue y x p q = out blue y x p q
 

@@ -6,10 +6,10 @@ use Prim.Native.Nat.{ℕ, _+_, _-_, _*_, _/_, _%_, _≤_, _<_, min}
 use native.Mathlib.Omega.{arith}
 use lib.Dec.{eqb}
 use borrow.Author.Tests.{eqb-true, eqb-false}
-use lib.IntN.{ℤ}
+use lib.IntN.{ℤ, pos}
 use mir.Syntax.{w32}
 use mir.Val.{SFits}
-use Rattle.wrap32.specs.Arithmetic.{wrapping}
+use Rattle.wrap32.specs.Arithmetic.{Arithmetic, wrapping}
 use Rattle.wrap32.proofs.Laws.{of-cond, addW-fits, subW-fits, sub-add, add-sub}
 use Rattle.format.specs.Lifting.{Signal, weave, Lead, lowLeads, highLeads, join, lowPlaces, highPlaces, taken, added, lowOut, highOut, lift, highsOf, lowsOf, Shape, Same}
 
@@ -61,34 +61,45 @@ module _ (n m : ℕ) where
   high-places lowLeads s t e p y h = p (2 * y + 1) (omega arith)
   high-places highLeads s t e p y h = p (2 * y) (⊎-elim (λ q. omega arith) (λ q. omega arith) (e .1))
 
+-- in any arithmetic
+module _ (A : Arithmetic ℤ) (n m : ℕ) where
   -- what is taken off a low is settled by the m highs, what is added to a high by the n results
-  taken-same : (d : Lead) (f g : Signal) → Shape d n m → Same m f g → Same n (taken wrapping d m f) (taken wrapping d m g)
+  taken-same : (d : Lead) (f g : Signal) → Shape d n m → Same m f g → Same n (taken A d m f) (taken A d m g)
   unfolding taken
-  taken-same lowLeads f g e p y h = rw (p (y - 1) (omega arith), p y (omega arith))
+  taken-same lowLeads f g e p y h =
+      let a = p (y - 1) (omega arith) in
+      let b = p y (omega arith) in
+      λ i. A .shift (A .plus (A .plus (a i) (b i)) (A .of (pos 2))) 4
   taken-same highLeads f g e p y h =
       let k : y < m = ⊎-elim (λ q. omega arith) (λ q. omega arith) (e .1) in
-      rw (p y k, p (min (y + 1) (m - 1)) (omega arith))
+      let a = p y k in
+      let b = p (min (y + 1) (m - 1)) (omega arith) in
+      λ i. A .shift (A .plus (A .plus (a i) (b i)) (A .of (pos 2))) 4
 
-  added-same : (d : Lead) (f g : Signal) → Shape d n m → Same n f g → Same m (added wrapping d n f) (added wrapping d n g)
+  added-same : (d : Lead) (f g : Signal) → Shape d n m → Same n f g → Same m (added A d n f) (added A d n g)
   unfolding added
-  added-same lowLeads f g e p y h = rw (p y (omega arith), p (min (y + 1) (n - 1)) (omega arith))
+  added-same lowLeads f g e p y h =
+      let a = p y (omega arith) in
+      let b = p (min (y + 1) (n - 1)) (omega arith) in
+      λ i. A .shift (A .plus (a i) (b i)) 2
   added-same highLeads f g e p y h =
       let k : y < n + 1 = ⊎-elim (λ q. omega arith) (λ q. omega arith) (e .1) in
       branch (eqb y 0) (f 0) (g 0) _ _ (λ _. p 0 (e .0)) λ a.
       branch (eqb y n) (f (y - 1)) (g (y - 1)) _ _ (λ b. p (y - 1) (omega (arith, eqb-true y n b, e .0))) λ b.
       let z : y < n = omega (arith, eqb-false y n b) in
-      rw (p (y - 1) (omega arith), p y z)
+      let u = p (y - 1) (omega arith) in
+      λ i. A .shift (A .plus (u i) (p y z i)) 2
 
   -- lifting depends on no other place
-  pub lift-same : (d : Lead) (lo hi lo′ hi′ : Signal) → Shape d n m → Same n lo lo′ → Same m hi hi′ → Same (n + m) (lift wrapping d n m lo hi) (lift wrapping d n m lo′ hi′)
+  pub lift-same : (d : Lead) (lo hi lo′ hi′ : Signal) → Shape d n m → Same n lo lo′ → Same m hi hi′ → Same (n + m) (lift A d n m lo hi) (lift A d n m lo′ hi′)
   unfolding lift lowOut highOut
   lift-same d lo hi lo′ hi′ e p q = by d e lows highs
     where
-      lows : Same n (lowOut wrapping d m lo hi) (lowOut wrapping d m lo′ hi′)
-      lows y h = rw (p y h, taken-same d hi hi′ e q y h)
+      lows : Same n (lowOut A d m lo hi) (lowOut A d m lo′ hi′)
+      lows y h = λ i. A .minus (p y h i) (taken-same d hi hi′ e q y h i)
 
-      highs : Same m (highOut wrapping d n (lowOut wrapping d m lo hi) hi) (highOut wrapping d n (lowOut wrapping d m lo′ hi′) hi′)
-      highs y h = rw (q y h, added-same d (lowOut wrapping d m lo hi) (lowOut wrapping d m lo′ hi′) e lows y h)
+      highs : Same m (highOut A d n (lowOut A d m lo hi) hi) (highOut A d n (lowOut A d m lo′ hi′) hi′)
+      highs y h = λ i. A .plus (q y h i) (added-same d (lowOut A d m lo hi) (lowOut A d m lo′ hi′) e lows y h i)
 
       by : (d : Lead) {a b a′ b′ : Signal} → Shape d n m → Same n a a′ → Same m b b′ → Same (n + m) (join d a b) (join d a′ b′)
       by lowLeads {a} {b} {a′} {b′} e p q k h = weave-same n m a b a′ b′ (omega arith) (omega arith) p q k h
@@ -113,11 +124,11 @@ module _ (d : Lead) (n m : ℕ) (lo hi out : Signal) (e : Shape d n m) (s : Same
   pub undo-highs : ((k : ℕ) → k < m → SFits w32 (hi k)) → Same m (highsOf d n out) hi
   unfolding highsOf highOut
   undo-highs f y h =
-      rw (high-res y h, added-same n m d (lowPlaces d out) (lowOut wrapping d m lo hi) e low-res y h)
+      rw (high-res y h, added-same wrapping n m d (lowPlaces d out) (lowOut wrapping d m lo hi) e low-res y h)
       (sub-add (hi y) (added wrapping d n (lowOut wrapping d m lo hi) y) (f y h))
 
   pub undo-lows : ((k : ℕ) → k < n → SFits w32 (lo k)) → ((k : ℕ) → k < m → SFits w32 (hi k)) → Same n (lowsOf d n m out) lo
   unfolding lowsOf lowOut
   undo-lows g f y h =
-      rw (low-res y h, taken-same n m d (highsOf d n out) hi e (undo-highs f) y h)
+      rw (low-res y h, taken-same wrapping n m d (highsOf d n out) hi e (undo-highs f) y h)
       (add-sub (lo y) (taken wrapping d m hi y) (g y h))

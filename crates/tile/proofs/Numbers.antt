@@ -6,9 +6,8 @@ use native.Mathlib.Omega.{arith}
 use lib.Dec.{ltb}
 use borrow.Author.Tests.{lt-ltb, ltb-true}
 use Rattle.wrap32.proofs.Laws.{of-cond}
-use Rattle.format.specs.Sizes.{Colour, l1, l2, l3, Group, base, detail, final, number, index}
+use Rattle.format.specs.Sizes.{Colour, l1, l2, l3, Group, base, detail, final, present, number, index}
 use Rattle.format.specs.Table.{mode}
-use Rattle.format.proofs.Accepted.{present}
 use Rattle.passes.specs.declared.Plan.{Plan}
 use Rattle.packets.specs.Answers.{groupOf, colourOf}
 use Rattle.packets.proofs.AnswerLaws.{number-of, index-of}

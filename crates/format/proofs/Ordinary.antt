@@ -1,0 +1,140 @@
+-- No wrap in ordinary frames. Of an accepted stream whose selectors are all 4 at most: no sum, doubling or shift on the way from coefficients
+-- to planes leaves signed 32 bits, the three levels are T.800's filter on whole numbers, and the planes lie strictly between -536,870,912 and
+-- 536,870,912. Assumes nothing.
+use mathlib.Core.Path.{_≡_, refl, sym, ap, _∙_, subst}
+use mathlib.Core.Bool.{Bool, true, false}
+use mathlib.Core.List.{List, [], _∷_, _++_, map, map-append, map-id}
+use Prim.Native.Nat.{ℕ, zero, suc, _≤_, _<_}
+use native.Mathlib.Omega.{arith}
+use lib.IntN.{ℤ, pos, negsuc, natAbs}
+use lib.Signed.{mag}
+use lib.ListN.{getD}
+use Rattle.wrap32.specs.Arithmetic.{Arithmetic, wrapping, whole, Checked, left, within, checked}
+use Rattle.wrap32.specs.Arithmetic as arithmetic
+use Rattle.wrap32.specs.Edge.{edgeDetail}
+use Rattle.wrap32.proofs.Faithful.{Faithful, Is, wrapping-faithful, checked-faithful, number-of}
+use Rattle.lists.specs.Lists.{tab, rows}
+use Rattle.format.specs.Sizes.{Colour, green, Level, detail, stripes, guarded, columns, planeRowsOf, planeColumns}
+use Rattle.format.specs.Strip.{width, codedHeight}
+use Rattle.format.specs.Coefficients.{coefs}
+use Rattle.format.specs.Lifting.{PlaneOf, Plane, weave, lowLeads, taken, added, lowOut, highOut, lift, SameOn}
+use Rattle.format.specs.Table.{height, lead, highs, hl, lh, hh}
+use Rattle.format.specs.Synthesis.{down, bands, llAt, outcome, quarter, guess, around, oddGreen, evenGreen, bothGreens, planeOf, planes}
+use Rattle.format.specs.Ordinary.{OrdinarySelectors, Ordinary, filteredPlanes, Filtered, AtMost, Bounded}
+use Rattle.format.proofs.Exact.{Tall, tall-of}
+use Rattle.format.proofs.Accepted.{Good}
+use Rattle.format.proofs.Accepted as accept
+use Rattle.format.proofs.Ranges.{Each, none, more, each-join, LowSelectors, small-coefs}
+use Rattle.format.proofs.Bounds.{Over, Fair, ll-is, step-lo, step-hi, outcome-is, odds-are, plane-is}
+use Rattle.format.proofs.Filtered as filter
+
+-- nothing is lost either: selectors of 4 at most are 11 at most
+pub low-selectors : (s : List ℕ) → Good s → OrdinarySelectors s → LowSelectors s
+unfolding OrdinarySelectors LowSelectors
+low-selectors s ok low l i t c h k =
+    let three = ok .packets (detail l) i refl .kinds in
+    let four = low (detail l) i t c refl h (omega (arith, three)) in
+    omega arith
+
+-- ---- rows of numbers, place by place
+module _ {N : Type 0} (f : ℤ → N) where
+  tab-map : (w : ℕ) (p : ℕ → N) (q : ℕ → ℤ) → ((x : ℕ) → x < w → p x ≡ f (q x)) → tab w p ≡ map f (tab w q)
+  unfolding tab
+  tab-map zero p q e = refl
+  tab-map (suc w) p q e = λ i. e zero (omega arith) i ∷ tab-map w (λ x. p (suc x)) (λ x. q (suc x)) (λ x h. e (suc x) (omega arith)) i
+
+  pub rows-map : (h w : ℕ) (p : PlaneOf N) (q : Plane) → ((y x : ℕ) → y < h → x < w → p y x ≡ f (q y x)) → rows h (λ y. tab w (p y)) ≡ map f (rows h (λ y. tab w (q y)))
+  unfolding rows
+  rows-map zero w p q e = refl
+  rows-map (suc h) w p q e =
+      (λ i. rows-map h w p q (λ y x a b. e y x (omega arith) b) i ++ tab-map w (p h) (q h) (λ x b. e h x (omega arith) b) i)
+      ∙ sym (map-append f (rows h (λ y. tab w (q y))) (tab w (q h)))
+
+module _ (P : ℤ → Type 0) (nought : P (pos 0)) where
+  each-tab : (w : ℕ) (q : ℕ → ℤ) → ((x : ℕ) → x < w → P (q x)) → Each P (tab w q)
+  unfolding tab
+  each-tab zero q e = none
+  each-tab (suc w) q e = more (q zero) _ (e zero (omega arith)) (each-tab w (λ x. q (suc x)) (λ x h. e (suc x) (omega arith)))
+
+  each-rows : (h w : ℕ) (q : Plane) → ((y x : ℕ) → y < h → x < w → P (q y x)) → Each P (rows h (λ y. tab w (q y)))
+  unfolding rows
+  each-rows zero w q e = none
+  each-rows (suc h) w q e = each-join P nought _ _ (each-rows h w q (λ y x a b. e y x (omega arith) b)) (each-tab w (q h) (λ x b. e h x (omega arith) b))
+
+mag-less : (z : ℤ) (m : ℕ) → natAbs z < m → mag z < m
+mag-less (pos n) m h = h
+mag-less (negsuc n) m h = omega arith
+
+abs-less : (z : ℤ) (m : ℕ) → mag z < m → natAbs z ≤ m
+abs-less (pos n) m h = omega arith
+abs-less (negsuc n) m h = omega arith
+
+at-most : (h w m : ℕ) (p q : Plane) → Over wrapping h w m p q → AtMost h w m p
+at-most h w m p q r y x u v = subst (λ (z : ℤ). natAbs z ≤ m) (sym (r y x u v .same)) (abs-less (q y x) m (r y x u v .below))
+
+-- ---- the theorems
+module _ (s : List ℕ) (o : Ordinary s) where
+  abbrev g : Bool
+  g = guarded (codedHeight s)
+
+  abbrev n : ℕ
+  n = stripes (codedHeight s)
+
+  good : Good s
+  good = accept.accepted s (o .greenN) (o .redN) (o .blueN) (o .workN) (o .accepted) .good
+
+  pub fair : Fair g n (width s) (coefs s)
+  unfolding OrdinarySelectors
+  fair = record {
+    tall = tall-of (codedHeight s) (good .tall);
+    even = good .whole;
+    narrow = good .narrow;
+    below = λ m i c r x e. mag-less (coefs s m i c r x) 8388600 (small-coefs s m i (λ t k. o .low m i t k e) c r x);
+  }
+
+  -- the planes are those of whole numbers: nothing is cut
+  pub planes-are-whole : (i : Colour) → planes wrapping (width s) (codedHeight s) (coefs s) i ≡ planes whole (width s) (codedHeight s) (coefs s) i
+  unfolding planes
+  planes-are-whole i = rows-map (λ z. z) _ _ _ _ (λ y x p q. plane-is wrapping wrapping-faithful fair i y x p q .same) ∙ map-id _
+
+  -- no sum, doubling or shift leaves signed 32 bits: in checked arithmetic every number of the planes is there, and is what it is
+  pub none-leaves : (i : Colour) → planes checked (width s) (codedHeight s) (coefs s) i ≡ map arithmetic.number (planes wrapping (width s) (codedHeight s) (coefs s) i)
+  unfolding planes
+  none-leaves i =
+      rows-map arithmetic.number _ _ _ _ (λ y x p q. let z = plane-is checked checked-faithful fair i y x p q in z .same ∙ number-of _ (omega (arith, z .below)))
+      ∙ ap (map arithmetic.number) (sym (planes-are-whole i))
+
+  -- the planes are those of T.800's filter on whole numbers, through the three levels
+  pub planes-are-filtered : (i : Colour) → planes wrapping (width s) (codedHeight s) (coefs s) i ≡ filteredPlanes (width s) (codedHeight s) (coefs s) i
+  unfolding planes filteredPlanes
+  planes-are-filtered i =
+      planes-are-whole i ∙ rows-map (λ z. z) _ _ _ _ (filter.plane-is g n (width s) (fair .tall) (good .whole) (good .wide) (coefs s) i) ∙ map-id _
+
+  -- every number of the planes lies strictly between -536,870,912 and 536,870,912
+  pub planes-are-small : (i : Colour) → Each (λ z. natAbs z < 536870912) (planes wrapping (width s) (codedHeight s) (coefs s) i)
+  unfolding planes
+  planes-are-small i =
+      each-rows (λ z. natAbs z < 536870912) (omega arith) _ _ _ (λ y x p q. omega (arith, at-most _ _ _ _ _ (plane-is wrapping wrapping-faithful fair i) y x p q))
+
+  -- at each level ll, lo and hi are what the filter alone gives
+  pub levels-are-filtered : (l : Level) (i : Colour) → Filtered g n (width s) i (coefs s) l
+  levels-are-filtered l i =
+      let like = ll-is wrapping wrapping-faithful fair i l in
+      let at = filter.at-is g n (width s) (fair .tall) (good .whole) (good .wide) (coefs s) i l in
+      let row = bands whole g l (height g n l) i (coefs s (detail l) i) in
+      record {
+        ll = λ y x p q. like y x p q .same ∙ at y x p q;
+        lo = λ y x p q. step-lo wrapping wrapping-faithful fair i l _ _ like y x p q .same ∙ filter.down-at g n (width s) (fair .tall) (good .wide) l _ _ (row lh) at y x p q;
+        hi = λ y x p q. step-hi wrapping wrapping-faithful fair i l _ _ like y x p q .same ∙ filter.down-at g n (width s) (fair .tall) (good .wide) l (row hl) (row hl) (row hh) (λ _ _ _ _. refl) y x p q;
+      }
+
+  -- how large each stage is
+  pub stages : Bounded g n (width s) (coefs s)
+  stages = record {
+    ll = λ l i. at-most _ _ _ _ _ (ll-is wrapping wrapping-faithful fair i l);
+    lo = λ l i. at-most _ _ _ _ _ (step-lo wrapping wrapping-faithful fair i l _ _ (ll-is wrapping wrapping-faithful fair i l));
+    hi = λ l i. at-most _ _ _ _ _ (step-hi wrapping wrapping-faithful fair i l _ _ (ll-is wrapping wrapping-faithful fair i l));
+    out = λ i. at-most _ _ _ _ _ (outcome-is wrapping wrapping-faithful fair i);
+    odd = at-most _ _ _ _ _ (odds-are wrapping wrapping-faithful fair);
+    full = at-most _ _ _ _ _ (plane-is wrapping wrapping-faithful fair green);
+  }
