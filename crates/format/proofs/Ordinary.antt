@@ -2,26 +2,23 @@
 -- to planes leaves signed 32 bits, the three levels are T.800's filter on whole numbers, and the planes lie strictly between -536,870,912 and
 -- 536,870,912. Assumes nothing.
 use mathlib.Core.Path.{_≡_, refl, sym, ap, _∙_, subst}
-use mathlib.Core.Bool.{Bool, true, false}
-use mathlib.Core.List.{List, [], _∷_, _++_, map, map-append, map-id}
+use mathlib.Core.Bool.{Bool}
+use mathlib.Core.List.{List, _∷_, _++_, map, map-append, map-id}
 use Prim.Native.Nat.{ℕ, zero, suc, _≤_, _<_}
 use native.Mathlib.Omega.{arith}
 use lib.IntN.{ℤ, pos, negsuc, natAbs}
 use lib.Signed.{mag}
-use lib.ListN.{getD}
-use Rattle.wrap32.specs.Arithmetic.{Arithmetic, wrapping, whole, Checked, left, within, checked}
-use Rattle.wrap32.specs.Arithmetic as arithmetic
-use Rattle.wrap32.specs.Edge.{edgeDetail}
-use Rattle.wrap32.proofs.Faithful.{Faithful, Is, wrapping-faithful, checked-faithful, number-of}
+use Rattle.wrap32.specs.Arithmetic.{wrapping, whole, number, checked}
+use Rattle.wrap32.proofs.Faithful.{wrapping-faithful, checked-faithful, number-of}
 use Rattle.lists.specs.Lists.{tab, rows}
-use Rattle.format.specs.Sizes.{Colour, green, Level, detail, stripes, guarded, columns, planeRowsOf, planeColumns}
+use Rattle.format.specs.Sizes.{Colour, green, Level, detail, stripes, guarded}
 use Rattle.format.specs.Strip.{width, codedHeight}
 use Rattle.format.specs.Coefficients.{coefs}
-use Rattle.format.specs.Lifting.{PlaneOf, Plane, weave, lowLeads, taken, added, lowOut, highOut, lift, SameOn}
-use Rattle.format.specs.Table.{height, lead, highs, hl, lh, hh}
-use Rattle.format.specs.Synthesis.{down, bands, llAt, outcome, quarter, guess, around, oddGreen, evenGreen, bothGreens, planeOf, planes}
+use Rattle.format.specs.Lifting.{PlaneOf, Plane}
+use Rattle.format.specs.Table.{height, hl, lh, hh}
+use Rattle.format.specs.Synthesis.{bands, planes}
 use Rattle.format.specs.Ordinary.{OrdinarySelectors, Ordinary, filteredPlanes, Filtered, AtMost, Bounded}
-use Rattle.format.proofs.Exact.{Tall, tall-of}
+use Rattle.format.proofs.Exact.{tall-of}
 use Rattle.format.proofs.Accepted.{Good}
 use Rattle.format.proofs.Accepted as accept
 use Rattle.format.proofs.Ranges.{Each, none, more, each-join, LowSelectors, small-coefs}
@@ -98,11 +95,11 @@ module _ (s : List ℕ) (o : Ordinary s) where
   planes-are-whole i = rows-map (λ z. z) _ _ _ _ (λ y x p q. plane-is wrapping wrapping-faithful fair i y x p q .same) ∙ map-id _
 
   -- no sum, doubling or shift leaves signed 32 bits: in checked arithmetic every number of the planes is there, and is what it is
-  pub none-leaves : (i : Colour) → planes checked (width s) (codedHeight s) (coefs s) i ≡ map arithmetic.number (planes wrapping (width s) (codedHeight s) (coefs s) i)
+  pub none-leaves : (i : Colour) → planes checked (width s) (codedHeight s) (coefs s) i ≡ map number (planes wrapping (width s) (codedHeight s) (coefs s) i)
   unfolding planes
   none-leaves i =
-      rows-map arithmetic.number _ _ _ _ (λ y x p q. let z = plane-is checked checked-faithful fair i y x p q in z .same ∙ number-of _ (omega (arith, z .below)))
-      ∙ ap (map arithmetic.number) (sym (planes-are-whole i))
+      rows-map number _ _ _ _ (λ y x p q. let z = plane-is checked checked-faithful fair i y x p q in z .same ∙ number-of _ (omega (arith, z .below)))
+      ∙ ap (map number) (sym (planes-are-whole i))
 
   -- the planes are those of T.800's filter on whole numbers, through the three levels
   pub planes-are-filtered : (i : Colour) → planes wrapping (width s) (codedHeight s) (coefs s) i ≡ filteredPlanes (width s) (codedHeight s) (coefs s) i

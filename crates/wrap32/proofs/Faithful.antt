@@ -10,7 +10,7 @@ use lib.IntN.{ℤ, pos, negsuc, _+ℤ_, _-ℤ_}
 use lib.Signed.{mag, shrZ}
 use mir.Syntax.{w32}
 use mir.Val.{SFits}
-use Rattle.wrap32.specs.Arithmetic.{Arithmetic, wrapping, whole, number, within, both, alone, checked}
+use Rattle.wrap32.specs.Arithmetic.{Arithmetic, wrapping, whole, outside, number, within, both, alone, checked}
 use Rattle.wrap32.specs.Edge.{signOf, isOdd, edgeDetail}
 use Rattle.wrap32.proofs.Laws.{addW-plain, subW-plain, cut-id, mag-add, mag-diff, mag-half, mag-quarter}
 
@@ -35,7 +35,7 @@ wrapping-faithful = record {
 
 pub number-of : (z : ℤ) → SFits w32 z → within z ≡ number z
 unfolding within
-number-of z f = rw (lt-ltb (mag z) (2 ^ 31) (f .sfits))
+number-of z f = ap (λ (b : Bool). cond b (number z) outside) (lt-ltb (mag z) _ (omega (arith, f .sfits)))
 
 both-of : (f : ℤ → ℤ → ℤ) (x y : ℤ) → SFits w32 x → SFits w32 y → both f (within x) (within y) ≡ within (f x y)
 both-of f x y p q = (λ i. both f (number-of x p i) (number-of y q i))

@@ -30,20 +30,20 @@ whole = record { of = λ z. z; plus = _+ℤ_; minus = _-ℤ_; shift = shrZ; plus
 
 -- a whole number, or none once one has left signed 32 bits
 pub data Checked : Type 0 where
-  left : Checked
+  outside : Checked
   number : ℤ → Checked
 
 -- z, if it lies from -2 ^ 31 to 2 ^ 31 - 1
 unfoldable pub within : ℤ → Checked
-within z = cond (ltb (mag z) (2 ^ 31)) (number z) left
+within z = cond (ltb (mag z) (2 ^ 31)) (number z) outside
 
 abbrev pub both : (ℤ → ℤ → ℤ) → Checked → Checked → Checked
-both f left b = left
-both f (number x) left = left
+both f outside b = outside
+both f (number x) outside = outside
 both f (number x) (number y) = within (f x y)
 
 abbrev pub alone : (ℤ → ℤ) → Checked → Checked
-alone f left = left
+alone f outside = outside
 alone f (number x) = within (f x)
 
 -- signed 32 bits everywhere, also where document 01 allows 64

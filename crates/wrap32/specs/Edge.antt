@@ -1,5 +1,5 @@
 -- Document 01's E, which goes over a detail at an edge, and its undoing.
-use Prim.Native.Nat.{ℕ, zero, suc, _%_, _^_}
+use Prim.Native.Nat.{zero, suc, _%_, _^_}
 use mathlib.Core.Bool.{Bool, false, not, _&&_, cond, Bool·beq}
 use lib.Dec.{eqb, ltb}
 use lib.IntN.{ℤ, pos, negsuc, natAbs}
