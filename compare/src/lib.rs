@@ -23,6 +23,7 @@ pub mod damage;
 pub mod encoder;
 pub mod faults;
 pub mod oracle;
+pub mod ordinary;
 pub mod ours;
 pub mod packets;
 #[cfg(test)]
@@ -37,3 +38,4 @@ pub mod strips;
 pub mod sweep;
 pub mod vectors;
 pub mod whole;
+pub mod written;
