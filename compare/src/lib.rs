@@ -22,6 +22,7 @@ pub mod check;
 pub mod damage;
 pub mod encoder;
 pub mod faults;
+pub mod largest;
 pub mod oracle;
 pub mod ordinary;
 pub mod ours;

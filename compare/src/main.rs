@@ -3,7 +3,7 @@
 mod sample;
 
 use compare::ours::Ours;
-use compare::{bench, ordinary, run, sweep, vectors};
+use compare::{bench, largest, ordinary, run, sweep, vectors};
 use std::process::ExitCode;
 
 const HELP: &str = "\
@@ -20,6 +20,9 @@ compare: the proved ARW6 tile decoder against the original in Rust
         N random tiles (default 10000) with selectors up to 4, held against a synthesis on whole
         numbers, and one table with the largest magnitude of each stage. A mismatch ends with
         status 1, and the shortest stream that fails is written to FILE (default mismatch.bin)
+  compare largest
+        a search for the largest numbers of such tiles, and tables of what was found; a tile on
+        which decoders and whole numbers part ends with status 1
   compare bench [--only tile|coefficients]
         thread CPU time of one tile, the best of 9, the original in serial order and ours
   compare vectors records|refusals|tiles|strips [--seed S] > FILE
@@ -61,6 +64,10 @@ fn command(words: &[String]) -> Result<ExitCode, String> {
             let options = Options::parse(rest, &["--seed", "--count", "--out"])?;
             let (seed, count) = (options.number("--seed", 1)?, options.number("--count", 10_000)?);
             tell_ordinary(ordinary::run(&Ours, seed, count as usize), &options)
+        }
+        "largest" => {
+            Options::parse(rest, &[])?;
+            Ok(if largest::run(&Ours) { ExitCode::SUCCESS } else { ExitCode::FAILURE })
         }
         "bench" => run_bench(&Options::parse(rest, &["--only"])?),
         "vectors" => {

@@ -38,6 +38,26 @@ pub const fn of_level(level: usize, part: Part) -> Stage {
 
 pub const COUNT: usize = 25;
 
+impl Stage {
+    pub fn name(self) -> &'static str {
+        STAGES[self.0].0
+    }
+
+    /// Columns of the stage for each column of band 0, in the stages whose numbers have places.
+    pub fn columns(self) -> usize {
+        match self.0 {
+            2 => 1,
+            3..=17 => {
+                let (level, part) = ((self.0 - 3) / 5 + 1, (self.0 - 3) % 5);
+                let down = part == Part::Lo as usize || part == Part::Hi as usize;
+                1 << (level - down as usize)
+            }
+            22..=24 => 16,
+            _ => 8,
+        }
+    }
+}
+
 /// Each stage's name, its largest magnitude if every band were as large as E, and what the proof
 /// holds it below, where the proof names it.
 pub const STAGES: [(&str, i64, Option<i64>); COUNT] = [

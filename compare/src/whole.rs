@@ -67,14 +67,14 @@ fn shown(w: &mut impl Watch, stage: Stage, place: Place, number: i64) -> i64 {
     number
 }
 
-/// Adds from left to right; each partial sum is shown.
-fn sum<const N: usize>(w: &mut impl Watch, stage: Stage, place: Place, numbers: [i64; N]) -> i64 {
-    let mut all = numbers[0];
-    for number in &numbers[1..] {
-        w.on_the_way(stage, all);
+/// Adds from left to right; each partial sum is shown, and the sum, if it has a place there.
+fn sum<const N: usize>(w: &mut impl Watch, stage: Stage, place: Option<Place>, numbers: [i64; N]) -> i64 {
+    let mut all = 0;
+    for number in numbers {
         all += number;
+        w.on_the_way(stage, all);
     }
-    shown(w, stage, place, all)
+    place.map_or(all, |place| shown(w, stage, place, all))
 }
 
 /// Half, a quarter: `number` without its last bits, floored.
@@ -193,6 +193,7 @@ fn vertical(low: &Rows, high: &Rows, lead: usize, level: usize, part: Part, w: &
 }
 
 /// One lift; `lead` is 1 if the high band leads, and an index beyond the edge is the edge's own.
+/// The inner sums of the passes across have places, those of the passes down do not.
 fn lift(
     low: &[i64],
     high: &[i64],
@@ -203,12 +204,13 @@ fn lift(
     w: &mut impl Watch,
 ) -> Vec<i64> {
     let [highs, evens, outcome] = [Part::Highs, Part::Evens, part].map(|p| stages::of_level(level, p));
+    let of_sum = |at| (part == Part::Outcome).then(|| place(at));
     let mut out = vec![0; low.len() + high.len()];
     let mut results = Vec::with_capacity(low.len());
     for (y, low) in low.iter().enumerate() {
         let at = 2 * y + lead;
         let two = [high[(y + lead).saturating_sub(1)], high[(y + lead).min(high.len() - 1)]];
-        let inner = sum(w, highs, place(at), [two[0], two[1], 2]);
+        let inner = sum(w, highs, of_sum(at), [two[0], two[1], 2]);
         let quarter = shift(w, highs, inner, 2);
         out[at] = shown(w, outcome, place(at), low - quarter);
         results.push(out[at]);
@@ -216,7 +218,7 @@ fn lift(
     for (y, high) in high.iter().enumerate() {
         let at = 2 * y + 1 - lead;
         let two = [results[y.saturating_sub(lead)], results[(y + 1 - lead).min(results.len() - 1)]];
-        let inner = sum(w, evens, place(at), two);
+        let inner = sum(w, evens, of_sum(at), two);
         let half = shift(w, evens, inner, 1);
         out[at] = shown(w, outcome, place(at), high + half);
     }
@@ -261,7 +263,7 @@ fn odd_columns(l: &[i64], above: &[i64], here: &[i64], y: usize, w: &mut impl Wa
     let mut o = |x: usize| {
         let next = (x + 1).min(last);
         let four = [above[x], above[next], here[x], here[next]];
-        let details = sum(w, stages::FOUR_DETAILS, (y, x), four);
+        let details = sum(w, stages::FOUR_DETAILS, Some((y, x)), four);
         let p = shift(w, stages::FOUR_DETAILS, details, 2);
         let doubled = shown(w, stages::DOUBLED, (y, x), 2 * l[x]);
         let less = shown(w, stages::DOUBLED_LESS_P, (y, x), doubled - p);
@@ -276,11 +278,11 @@ fn all_columns(d: &[i64], here: &[i64], below: &[i64], y: usize, w: &mut impl Wa
     for x in 0..d.len() {
         let place = (y, 2 * x);
         let term = if x == 0 {
-            let two = sum(w, stages::FOUR_O, place, [here[0], below[0]]);
+            let two = sum(w, stages::FOUR_O, Some(place), [here[0], below[0]]);
             shift(w, stages::FOUR_O, two, 1)
         } else {
             let four = [here[x - 1], here[x], below[x - 1], below[x]];
-            let all = sum(w, stages::FOUR_O, place, four);
+            let all = sum(w, stages::FOUR_O, Some(place), four);
             shift(w, stages::FOUR_O, all, 2)
         };
         row.push(shown(w, stages::EVEN, place, d[x] + term));

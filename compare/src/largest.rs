@@ -1,0 +1,399 @@
+//! The command `largest`: a search for the largest numbers of tiles with selectors up to 4.
+//!
+//! Synthesis is nearly linear, so a number is largest where each coefficient is as large as can be
+//! and has the sign of its influence on that number. The influences are found by setting one
+//! coefficient after the other, the best places by adding up the influences' magnitudes. Then
+//! single coefficients are changed as long as the number grows.
+
+use crate::oracle;
+use crate::ordinary::{hold, GREATEST_SELECTOR};
+use crate::ours::Decoder;
+use crate::size::Size;
+use crate::stages::{self, thousands, Stage, STAGES};
+use crate::whole::{self, Coefficients, Held, Place, Watch};
+use crate::written;
+
+/// The greatest steps of band 0, up and down.
+const STEPS: [i32; 2] = [32_767, -32_768];
+
+/// The greatest coefficients under selector 4, odd ones, then even ones, which E treats otherwise.
+const EXTREMES: [i32; 4] = [8_388_599, -8_388_599, 8_388_584, -8_388_584];
+
+/// The widest tile.
+pub const WIDEST: usize = 65_520;
+
+/// Columns that stand for the right end of a wider tile.
+const END: usize = 192;
+
+/// Best places of a stage that are tried in each tile, and finds of a stage that are improved.
+const PLACES: usize = 3;
+const IMPROVED: usize = 4;
+
+/// Most rounds through all coefficients of a tile.
+const ROUNDS: usize = 4;
+
+/// A number to make large: of an index, at a place of a stage, above or below 0.
+#[derive(Debug, Clone, Copy)]
+pub struct Goal {
+    pub index: usize,
+    pub stage: Stage,
+    pub place: Place,
+    pub below: bool,
+}
+
+/// A tile in which the goal's number is large. The coefficients may stand for the right end of a
+/// tile that is `before` columns of band 0 wider.
+#[derive(Debug, Clone)]
+pub struct Find {
+    pub goal: Goal,
+    pub coefficients: Coefficients,
+    pub before: usize,
+    pub number: i64,
+}
+
+/// A coefficient: group, index, place in its packet.
+type Coordinate = (usize, usize, usize);
+
+/// The coefficients that the numbers of an index depend on.
+fn coordinates(c: &Coefficients, index: usize) -> Vec<Coordinate> {
+    let packets = (0..4).map(|group| (group, index)).chain((index == 0).then_some((4, 0)));
+    packets.flat_map(|(g, i)| (0..c.packets[g][i].len()).map(move |at| (g, i, at))).collect()
+}
+
+fn at(c: &mut Coefficients, (group, index, at): Coordinate) -> &mut i32 {
+    &mut c.packets[group][index][at]
+}
+
+fn choices(group: usize) -> &'static [i32] {
+    if group == 0 {
+        &STEPS
+    } else {
+        &EXTREMES
+    }
+}
+
+/// Green with what lies before it, or one of the other planes.
+fn synthesize(c: &Coefficients, index: usize, w: &mut impl Watch) {
+    match index {
+        0 => whole::green(c, w),
+        _ => whole::colour(c, index, w),
+    };
+}
+
+// Places.
+
+/// The sums of the magnitudes of all influences on each number.
+struct Reach {
+    width: usize,
+    rows: usize,
+    sums: Vec<i64>,
+}
+
+impl Reach {
+    fn key(&self, stage: Stage, (row, column): Place) -> usize {
+        (stage.0 * self.rows + row) * self.width + column
+    }
+}
+
+impl Watch for Reach {
+    fn number(&mut self, stage: Stage, place: Place, number: i64) {
+        if stage.0 >= stages::BAND_0.0 {
+            let key = self.key(stage, place);
+            self.sums[key] += number.abs();
+        }
+    }
+}
+
+/// The places of each stage that coefficients can make largest; at the end of a wider tile those in
+/// the right half.
+fn best_places(size: Size, index: usize, before: usize) -> Vec<(Stage, Place)> {
+    let (width, rows) = (size.width, size.rows() + 1);
+    let mut reach = Reach { width, rows, sums: vec![0; stages::COUNT * rows * width] };
+    let mut c = Coefficients::new(size);
+    for coordinate in coordinates(&c, index) {
+        *at(&mut c, coordinate) = choices(coordinate.0)[0];
+        synthesize(&c, index, &mut reach);
+        *at(&mut c, coordinate) = 0;
+    }
+    let mut best = Vec::new();
+    for stage in (stages::BAND_0.0..stages::COUNT).map(Stage) {
+        let columns = size.width / 16 * stage.columns();
+        let from = if before > 0 { columns / 2 } else { 0 };
+        let all = (0..rows).flat_map(|y| (from..columns).map(move |x| (y, x)));
+        let mut reached: Vec<(i64, Place)> = all.map(|p| (reach.sums[reach.key(stage, p)], p)).collect();
+        reached.retain(|&(sum, _)| sum > STEPS[0] as i64);
+        reached.sort_by_key(|&(sum, place)| (-sum, place));
+        best.extend(reached.iter().take(PLACES).map(|&(_, place)| (stage, place)));
+    }
+    best
+}
+
+// Signs.
+
+/// The numbers at some places, which stand in the order of their stages.
+struct Looked<'a> {
+    places: &'a [(Stage, Place)],
+    /// The first place of each stage, and the end.
+    firsts: [usize; stages::COUNT + 1],
+    numbers: Vec<i64>,
+}
+
+impl Watch for Looked<'_> {
+    fn number(&mut self, stage: Stage, place: Place, number: i64) {
+        for i in self.firsts[stage.0]..self.firsts[stage.0 + 1] {
+            if self.places[i].1 == place {
+                self.numbers[i] = number;
+            }
+        }
+    }
+}
+
+/// The numbers at the places.
+fn look(c: &Coefficients, index: usize, places: &[(Stage, Place)]) -> Vec<i64> {
+    let firsts = std::array::from_fn(|stage| places.partition_point(|p| p.0 .0 < stage));
+    let mut looked = Looked { places, firsts, numbers: vec![0; places.len()] };
+    synthesize(c, index, &mut looked);
+    looked.numbers
+}
+
+/// A tile of zeros; at the end of a wider one band 0 comes in from its steps before.
+fn start(size: Size, before: usize, below: bool) -> Coefficients {
+    let start = STEPS[below as usize] as i64 * before as i64;
+    Coefficients { start, ..Coefficients::new(size) }
+}
+
+/// For each place two tiles with every coefficient by the sign of its influence: the number there
+/// is large above 0 and below 0.
+fn by_signs(size: Size, index: usize, before: usize, places: &[(Stage, Place)]) -> Vec<Find> {
+    let mut c = Coefficients::new(size);
+    let base = look(&c, index, places);
+    let mut finds = Vec::new();
+    for &(stage, place) in places {
+        for below in [false, true] {
+            let goal = Goal { index, stage, place, below };
+            finds.push(Find { goal, coefficients: start(size, before, below), before, number: 0 });
+        }
+    }
+    for coordinate in coordinates(&c, index) {
+        let choices = choices(coordinate.0);
+        *at(&mut c, coordinate) = choices[0];
+        let found = look(&c, index, places);
+        *at(&mut c, coordinate) = 0;
+        for (i, find) in finds.iter_mut().enumerate() {
+            let influence = found[i / 2] - base[i / 2];
+            if influence != 0 {
+                *at(&mut find.coefficients, coordinate) =
+                    choices[((influence < 0) != find.goal.below) as usize];
+            }
+        }
+    }
+    finds.iter_mut().for_each(Find::measure);
+    finds
+}
+
+impl Find {
+    /// The goal's number in the coefficients.
+    fn measure(&mut self) {
+        self.number = look(&self.coefficients, self.goal.index, &[(self.goal.stage, self.goal.place)])[0];
+    }
+
+    fn size(&self) -> Size {
+        let size = self.coefficients.size;
+        Size { width: size.width + 16 * self.before, ..size }
+    }
+
+    /// The goal's place in the whole tile.
+    fn place(&self) -> Place {
+        let (row, column) = self.goal.place;
+        (row, column + self.before * self.goal.stage.columns())
+    }
+
+    /// Changes single coefficients as long as the number grows.
+    fn improve(&mut self) {
+        for _ in 0..ROUNDS {
+            let before = self.number;
+            for coordinate in coordinates(&self.coefficients, self.goal.index) {
+                if *at(&mut self.coefficients, coordinate) != 0 {
+                    choices(coordinate.0).iter().for_each(|&choice| self.change(coordinate, choice));
+                }
+            }
+            if self.number == before {
+                break;
+            }
+        }
+    }
+
+    /// Sets a coefficient if the number grows by it.
+    fn change(&mut self, coordinate: Coordinate, choice: i32) {
+        let (kept, number) = (*at(&mut self.coefficients, coordinate), self.number);
+        if kept == choice {
+            return;
+        }
+        *at(&mut self.coefficients, coordinate) = choice;
+        self.measure();
+        let grown = if self.goal.below { self.number < number } else { self.number > number };
+        if !grown {
+            *at(&mut self.coefficients, coordinate) = kept;
+            self.number = number;
+        }
+    }
+
+    /// The whole tile, with band 0's steps before the coefficients.
+    pub fn tile(&self) -> Coefficients {
+        let (c, size) = (&self.coefficients, self.size());
+        let mut tile = Coefficients::new(size);
+        for (group, packets) in tile.packets.iter_mut().enumerate() {
+            let (narrow, wide) = (c.size.shape(group).columns, size.shape(group).columns);
+            for (from, to) in c.packets[group].iter().zip(packets) {
+                for (from, to) in from.chunks(narrow).zip(to.chunks_mut(wide)) {
+                    to[wide - narrow..].copy_from_slice(from);
+                }
+            }
+        }
+        for row in tile.packets[0][self.goal.index].chunks_mut(size.width / 16) {
+            row[..self.before].fill(STEPS[self.goal.below as usize]);
+        }
+        tile
+    }
+
+    /// Codes the tile and holds both decoders and the whole numbers against each other.
+    fn hold(&self, decoder: &impl Decoder) -> Result<Held, String> {
+        let tile = self.tile();
+        let found = look(&tile, self.goal.index, &[(self.goal.stage, self.place())])[0];
+        if found != self.number {
+            return Err(format!("{found} in the whole tile, {} at its end", self.number));
+        }
+        let stream = written::coded(&tile, GREATEST_SELECTOR).bytes;
+        let original =
+            oracle::decode(&stream, [usize::MAX; 4]).map_err(|number| format!("refused with {number}"))?;
+        hold(decoder, &stream, &original)
+    }
+
+    fn describe(&self) -> String {
+        let (size, (row, column)) = (self.size(), self.place());
+        let index = ["green", "red", "blue"][self.goal.index];
+        format!("{} by {}, {index}, row {row}, column {column}", size.width, size.height())
+    }
+}
+
+// All tiles.
+
+/// The finds of one tile, for green and red.
+fn search(size: Size, before: usize) -> Vec<Find> {
+    let of_index = |index| by_signs(size, index, before, &best_places(size, index, before));
+    [0, 1].into_iter().flat_map(of_index).collect()
+}
+
+/// The best of a stage in tiles of this size, improved; `index` is 0 for green, 1 for red.
+pub fn best_of(size: Size, index: usize, stage: Stage, below: bool) -> Option<Find> {
+    let mut places = best_places(size, index, 0);
+    places.retain(|p| p.0 == stage);
+    let mut finds = by_signs(size, index, 0, &places);
+    finds.retain(|find| find.goal.below == below);
+    best(finds.iter(), 1)
+}
+
+/// The best of some finds, after the first few of them have been improved.
+fn best<'a>(finds: impl Iterator<Item = &'a Find>, improved: usize) -> Option<Find> {
+    let mut finds: Vec<&Find> = finds.collect();
+    finds.sort_by_key(|find| -find.number.abs());
+    let improve = |find: &&Find| {
+        let mut find = (*find).clone();
+        find.improve();
+        find
+    };
+    finds.iter().take(improved).map(improve).max_by_key(|find| find.number.abs())
+}
+
+/// Tiles of few columns, and the right ends of the widest, both kinds of height.
+fn grounds() -> Vec<(Size, usize)> {
+    let size = |width, height: usize| Size { width, half: height / 2 };
+    let mut all = Vec::new();
+    for width in [16, 32, 64] {
+        all.extend([16, 18, 32, 34, 64, 66].map(|height| (size(width, height), 0)));
+    }
+    all.extend([16, 18, 32, 34].map(|height| (size(256, height), 0)));
+    all.extend([16, 18, 32, 34, 64, 66].map(|height| (size(END, height), (WIDEST - END) / 16)));
+    all
+}
+
+/// The outcome for a stage: the largest number in narrow tiles and in the widest.
+type Row = [Option<Find>; 2];
+
+/// Searches all tiles, holds the best, and prints the tables; false if a tile fails.
+pub fn run(decoder: &impl Decoder) -> bool {
+    let finds: Vec<Find> = grounds().into_iter().flat_map(|(size, before)| search(size, before)).collect();
+    let rows: Vec<Row> = (0..stages::COUNT)
+        .map(|stage| {
+            [false, true].map(|wide| {
+                best(finds.iter().filter(|f| f.goal.stage.0 == stage && (f.before > 0) == wide), IMPROVED)
+            })
+        })
+        .collect();
+    let mut all = true;
+    let mut held = [[0; stages::COUNT]; 2];
+    for find in rows.iter().flatten().flatten() {
+        let largest = &mut held[(find.before > 0) as usize];
+        match find.hold(decoder) {
+            Ok(found) => *largest = std::array::from_fn(|i| largest[i].max(found.largest[i])),
+            Err(what) => {
+                println!("{}: {}: {what}", find.goal.stage.name(), find.describe());
+                all = false;
+            }
+        }
+    }
+    print(&rows, &held);
+    all
+}
+
+/// One table of the magnitudes, one of the tiles and places.
+fn print(rows: &[Row], held: &[[i64; stages::COUNT]; 2]) {
+    println!("| stage | largest found | in tiles up to 256 columns | every band as large as E | in the proof, below |");
+    println!("|---|---|---|---|---|");
+    for (stage, (name, bound, proved)) in STAGES.into_iter().enumerate() {
+        let [narrow, wide] = [0, 1].map(|i| held[i][stage]);
+        let proved = proved.map_or(String::new(), thousands);
+        let numbers = [wide.max(narrow), narrow, bound].map(thousands);
+        println!("| {name} | {} | {proved} |", numbers.join(" | "));
+    }
+    println!("\n| stage | number | tile and place | number in narrow tiles | tile and place |");
+    println!("|---|---|---|---|---|");
+    for [narrow, wide] in rows {
+        let Some(name) = narrow.as_ref().map(|find| find.goal.stage.name()) else { continue };
+        let cells = [wide, narrow].map(|find| {
+            find.as_ref().map_or(" | ".to_string(), |f| format!("{} | {}", thousands(f.number), f.describe()))
+        });
+        println!("| {name} | {} |", cells.join(" | "));
+    }
+}
+
+#[cfg(test)]
+mod tests {
+    use super::*;
+    use crate::ours::mock::Mock;
+
+    /// A find at the right end is the number of the whole tile, and decoders agree on it.
+    #[test]
+    fn ends_of_wider_tiles() {
+        for height in [16, 18] {
+            let size = Size { width: 96, half: height / 2 };
+            let finds = search(size, 20);
+            assert!(finds.iter().all(|find| find.number.signum() == if find.goal.below { -1 } else { 1 }));
+            for find in finds.iter().step_by(7) {
+                let held = find.hold(&Mock).unwrap();
+                assert!(find.number.abs() <= held.largest[find.goal.stage.0]);
+            }
+        }
+    }
+
+    /// A changed coefficient never makes a number smaller, and no sign that is turned makes it much
+    /// larger.
+    #[test]
+    fn improving() {
+        let size = Size { width: 32, half: 9 };
+        let mut find = search(size, 0).into_iter().find(|find| find.goal.stage == stages::FOUR_O).unwrap();
+        let number = find.number;
+        find.improve();
+        assert!((number..number + 1000).contains(&find.number), "{number} {}", find.number);
+    }
+}
