@@ -293,7 +293,7 @@ pub fn best_of(size: Size, index: usize, stage: Stage, below: bool) -> Option<Fi
     best(finds.iter(), 1)
 }
 
-/// The best of some finds, after the first few of them have been improved.
+/// The best of some finds, after the first few of them have been improved; of equals the earliest.
 fn best<'a>(finds: impl Iterator<Item = &'a Find>, improved: usize) -> Option<Find> {
     let mut finds: Vec<&Find> = finds.collect();
     finds.sort_by_key(|find| -find.number.abs());
@@ -302,7 +302,8 @@ fn best<'a>(finds: impl Iterator<Item = &'a Find>, improved: usize) -> Option<Fi
         find.improve();
         find
     };
-    finds.iter().take(improved).map(improve).max_by_key(|find| find.number.abs())
+    let larger = |a: Find, b: Find| if b.number.abs() > a.number.abs() { b } else { a };
+    finds.iter().take(improved).map(improve).reduce(larger)
 }
 
 /// Tiles of few columns, and the right ends of the widest, both kinds of height.
@@ -317,53 +318,70 @@ fn grounds() -> Vec<(Size, usize)> {
     all
 }
 
-/// The outcome for a stage: the largest number in narrow tiles and in the widest.
-type Row = [Option<Find>; 2];
+/// Stages of which the second table has the largest number in each tile.
+const OF_EACH_TILE: [Stage; 4] = [stages::COLOUR, stages::O, stages::FOUR_O, stages::EVEN];
 
 /// Searches all tiles, holds the best, and prints the tables; false if a tile fails.
 pub fn run(decoder: &impl Decoder) -> bool {
-    let finds: Vec<Find> = grounds().into_iter().flat_map(|(size, before)| search(size, before)).collect();
-    let rows: Vec<Row> = (0..stages::COUNT)
-        .map(|stage| {
-            [false, true].map(|wide| {
-                best(finds.iter().filter(|f| f.goal.stage.0 == stage && (f.before > 0) == wide), IMPROVED)
-            })
-        })
-        .collect();
+    let tiles: Vec<Vec<Find>> = grounds().into_iter().map(|(size, before)| search(size, before)).collect();
+    let of_stage = |stage: usize, wide: bool| {
+        let all = tiles.iter().flatten();
+        best(all.filter(|f| f.goal.stage.0 == stage && (f.before > 0) == wide), IMPROVED)
+    };
+    let of_stages: Vec<Find> =
+        (0..stages::COUNT).flat_map(|s| [false, true].map(|wide| of_stage(s, wide))).flatten().collect();
+    let of_tile = |finds: &Vec<Find>| {
+        OF_EACH_TILE.map(|stage| best(finds.iter().filter(|f| f.goal.stage == stage), 1).expect("a find"))
+    };
+    let of_tiles: Vec<[Find; 4]> = tiles.iter().map(of_tile).collect();
+
     let mut all = true;
-    let mut held = [[0; stages::COUNT]; 2];
-    for find in rows.iter().flatten().flatten() {
-        let largest = &mut held[(find.before > 0) as usize];
+    let mut largest = [[0; stages::COUNT]; 2];
+    for find in of_stages.iter().chain(of_tiles.iter().flatten()) {
+        let largest = &mut largest[(find.before > 0) as usize];
         match find.hold(decoder) {
-            Ok(found) => *largest = std::array::from_fn(|i| largest[i].max(found.largest[i])),
+            Ok(held) => *largest = std::array::from_fn(|i| largest[i].max(held.largest[i])),
             Err(what) => {
                 println!("{}: {}: {what}", find.goal.stage.name(), find.describe());
                 all = false;
             }
         }
     }
-    print(&rows, &held);
+    print_magnitudes(&largest);
+    print_tiles(&of_tiles);
+    print_places(&of_stages);
     all
 }
 
-/// One table of the magnitudes, one of the tiles and places.
-fn print(rows: &[Row], held: &[[i64; stages::COUNT]; 2]) {
-    println!("| stage | largest found | in tiles up to 256 columns | every band as large as E | in the proof, below |");
+/// The largest magnitudes of the stages, in narrow tiles and in the widest, with their bounds.
+fn print_magnitudes([narrow, wide]: &[[i64; stages::COUNT]; 2]) {
+    println!(
+        "| stage | largest found | in tiles up to 256 columns | every band as large as E | proof, below |"
+    );
     println!("|---|---|---|---|---|");
-    for (stage, (name, bound, proved)) in STAGES.into_iter().enumerate() {
-        let [narrow, wide] = [0, 1].map(|i| held[i][stage]);
-        let proved = proved.map_or(String::new(), thousands);
-        let numbers = [wide.max(narrow), narrow, bound].map(thousands);
-        println!("| {name} | {} | {proved} |", numbers.join(" | "));
+    for (i, (name, bound, proved)) in STAGES.into_iter().enumerate() {
+        let numbers = [wide[i].max(narrow[i]), narrow[i], bound].map(thousands);
+        println!("| {name} | {} | {} |", numbers.join(" | "), proved.map_or(String::new(), thousands));
     }
-    println!("\n| stage | number | tile and place | number in narrow tiles | tile and place |");
+}
+
+/// The largest numbers of each tile.
+fn print_tiles(of_tiles: &[[Find; 4]]) {
+    println!("\n| tile | {} |", OF_EACH_TILE.map(Stage::name).join(" | "));
     println!("|---|---|---|---|---|");
-    for [narrow, wide] in rows {
-        let Some(name) = narrow.as_ref().map(|find| find.goal.stage.name()) else { continue };
-        let cells = [wide, narrow].map(|find| {
-            find.as_ref().map_or(" | ".to_string(), |f| format!("{} | {}", thousands(f.number), f.describe()))
-        });
-        println!("| {name} | {} |", cells.join(" | "));
+    for finds in of_tiles {
+        let size = finds[0].size();
+        let numbers = finds.each_ref().map(|find| thousands(find.number));
+        println!("| {} by {} | {} |", size.width, size.height(), numbers.join(" | "));
+    }
+}
+
+/// Where the largest numbers of the stages stand.
+fn print_places(of_stages: &[Find]) {
+    println!("\n| stage | number | tile and place |");
+    println!("|---|---|---|");
+    for find in of_stages {
+        println!("| {} | {} | {} |", find.goal.stage.name(), thousands(find.number), find.describe());
     }
 }
 

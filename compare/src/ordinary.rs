@@ -67,15 +67,8 @@ impl Manner {
     }
 }
 
-/// A record of mixed selectors; `all` is the manner of each of its components, but band 0 often
-/// steps one way.
-fn draw_record(rng: &mut Rng, shape: Shape, all: Option<Manner>) -> Record {
-    let steps = shape.rows() == 1 && rng.one_in(2);
-    let all = if steps { Some(Manner::Steps(rng.one_in(2))) } else { all };
-    let low = steps || rng.one_in(8);
-    let selectors =
-        std::array::from_fn(|_| if low { 0 } else { rng.below(GREATEST_SELECTOR as usize + 1) as u32 });
-    let manners: [Manner; 3] = std::array::from_fn(|_| all.unwrap_or_else(|| Manner::draw(rng)));
+/// A record of these manners and selectors, one of each for a component.
+fn record(rng: &mut Rng, shape: Shape, manners: [Manner; 3], selectors: [u32; 3]) -> Record {
     let mut values = Vec::with_capacity(shape.numbers());
     for row in 0..shape.rows() {
         values.extend((0..shape.columns).map(|x| manners[row / shape.m].value(rng, row % shape.m, x)));
@@ -83,6 +76,35 @@ fn draw_record(rng: &mut Rng, shape: Shape, all: Option<Manner>) -> Record {
     let mut record = written::record(shape, selectors, &values);
     record.payload.truncate(MOST_BYTES);
     record
+}
+
+fn draw_selectors(rng: &mut Rng) -> [u32; 3] {
+    std::array::from_fn(|_| rng.below(GREATEST_SELECTOR as usize + 1) as u32)
+}
+
+/// A record of mixed selectors; `all` is the manner of each of its components, but band 0 often
+/// steps one way.
+fn draw_record(rng: &mut Rng, shape: Shape, all: Option<Manner>) -> Record {
+    if shape.rows() == 1 && rng.one_in(2) {
+        let steps = Manner::Steps(rng.one_in(2));
+        return record(rng, shape, [steps; 3], [0; 3]);
+    }
+    let selectors = if rng.one_in(8) { [0; 3] } else { draw_selectors(rng) };
+    let manners = std::array::from_fn(|_| all.unwrap_or_else(|| Manner::draw(rng)));
+    record(rng, shape, manners, selectors)
+}
+
+/// A tile of the greatest magnitudes with random signs, under one selector or mixed ones.
+pub fn draw_extreme(rng: &mut Rng, size: Size, selector: Option<u32>) -> Stream {
+    let mut one = |shape| {
+        let selectors = selector.map_or_else(|| draw_selectors(rng), |selector| [selector; 3]);
+        record(rng, shape, [Manner::Extreme; 3], selectors)
+    };
+    let records = std::array::from_fn(|group| {
+        let mut packet = || (0..=size.n()).map(|_| one(size.shape(group))).collect();
+        (0..TILE_PACKETS[group]).map(|_| packet()).collect()
+    });
+    written::stream(size, &records)
 }
 
 /// All sorts of small sizes, now and then some thousand columns, seldom as wide as can be.
@@ -116,23 +138,40 @@ pub fn draw_ordinary(rng: &mut Rng) -> Stream {
 }
 
 /// Flips bits of payloads or of record headers, or shortens records.
-pub fn damage(rng: &mut Rng, stream: &mut Stream) {
+fn damage(rng: &mut Rng, stream: &mut Stream) {
     let manner = rng.below(5);
     for _ in 0..rng.pick(&[1, 1, 2, 5, 20]) {
-        let group = rng.below(5);
-        let (start, length) = stream.packets[group][rng.below(TILE_PACKETS[group])];
-        let packet = &mut stream.bytes[start..start + length];
-        let kind = stream.size.shape(group).kind;
-        if manner < 2 {
-            let at = record_at(kind, rng.below(stream.size.n() + 1));
-            shorten(rng, packet, at);
-            continue;
+        let (group, start, payloads, end) = draw_packet(rng, stream);
+        match manner {
+            0 | 1 => {
+                let at = record_at(stream.size.shape(group).kind, rng.below(stream.size.n() + 1));
+                shorten(rng, &mut stream.bytes[start..end], at);
+            }
+            2 => flip(rng, &mut stream.bytes[start + 16..payloads]),
+            _ => flip(rng, &mut stream.bytes[payloads..end]),
         }
-        let payloads = 16 * (u16::from_be_bytes([packet[0], packet[1]]) as usize + 1);
-        let (from, to) = if manner == 4 { (16, payloads) } else { (payloads, length) };
-        if from < to {
-            packet[rng.within(from, to - 1)] ^= 1 << rng.below(8);
-        }
+    }
+}
+
+/// Flips bits of payloads.
+pub fn damage_payloads(rng: &mut Rng, stream: &mut Stream, count: usize) {
+    for _ in 0..count {
+        let (_, _, payloads, end) = draw_packet(rng, stream);
+        flip(rng, &mut stream.bytes[payloads..end]);
+    }
+}
+
+/// A packet of the tile: its group, its start, its payloads' start, its end.
+fn draw_packet(rng: &mut Rng, stream: &Stream) -> (usize, usize, usize, usize) {
+    let group = rng.below(5);
+    let (start, length) = stream.packets[group][rng.below(TILE_PACKETS[group])];
+    let control = u16::from_be_bytes([stream.bytes[start], stream.bytes[start + 1]]) as usize;
+    (group, start, start + 16 * (control + 1), start + length)
+}
+
+fn flip(rng: &mut Rng, bytes: &mut [u8]) {
+    if !bytes.is_empty() {
+        bytes[rng.below(bytes.len())] ^= 1 << rng.below(8);
     }
 }
 
@@ -153,15 +192,25 @@ pub fn hold(decoder: &impl Decoder, stream: &[u8], original: &Planes) -> Result<
     if (decoded.refusal, decoded.stopped) != (0, original.stopped as u64) {
         return Err(format!("refusal {}, stopped {} of the library", decoded.refusal, decoded.stopped));
     }
-    let mut held = Held::default();
-    let whole = whole::planes(&Coefficients::of(stream, size), &mut held);
-    let originals = [&original.green, &original.red, &original.blue];
-    for (i, name) in ["green", "red", "blue"].into_iter().enumerate() {
+    let (held, whole) = hold_whole(stream, original)?;
+    for (i, name) in NAMES.into_iter().enumerate() {
         same(&format!("{name} of the library"), &slices[i], &whole[i])?;
+    }
+    Ok(held)
+}
+
+const NAMES: [&str; 3] = ["green", "red", "blue"];
+
+/// The planes in whole numbers, held against the original's.
+pub fn hold_whole(stream: &[u8], original: &Planes) -> Result<(Held, [Rows; 3]), String> {
+    let mut held = Held::default();
+    let whole = whole::planes(&Coefficients::of(stream, original.size), &mut held);
+    let originals = [&original.green, &original.red, &original.blue];
+    for (i, name) in NAMES.into_iter().enumerate() {
         same(&format!("{name} of the original"), originals[i], &whole[i])?;
     }
     within(&held, &whole)?;
-    Ok(held)
+    Ok((held, whole))
 }
 
 /// The numbers are those of the model.
@@ -336,6 +385,6 @@ mod tests {
         let stream = assemble(&draw_parts(&mut Rng::new(1), size, &Recipe::ordinary(1e5, [15, 15]))).bytes;
         let planes = oracle::decode(&stream, size.needed()).unwrap();
         let what = hold(&Mock, &stream, &planes).unwrap_err();
-        assert!(what.starts_with("green of the library[0]: "), "{what}");
+        assert!(what.starts_with("green of the original[0]: "), "{what}");
     }
 }
