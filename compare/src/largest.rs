@@ -10,7 +10,8 @@ use crate::ordinary::{hold, GREATEST_SELECTOR};
 use crate::ours::Decoder;
 use crate::size::Size;
 use crate::stages::{self, thousands, Stage, STAGES};
-use crate::whole::{self, Coefficients, Held, Place, Watch};
+use crate::watch::{Held, Place, Watch};
+use crate::whole::{self, Coefficients};
 use crate::written;
 
 /// The greatest steps of band 0, up and down.
@@ -86,6 +87,8 @@ fn synthesize(c: &Coefficients, index: usize, w: &mut impl Watch) {
 struct Reach {
     width: usize,
     rows: usize,
+    /// The numbers where all coefficients are 0.
+    base: Vec<i64>,
     sums: Vec<i64>,
 }
 
@@ -99,27 +102,36 @@ impl Watch for Reach {
     fn number(&mut self, stage: Stage, place: Place, number: i64) {
         if stage.0 >= stages::BAND_0.0 {
             let key = self.key(stage, place);
-            self.sums[key] += number.abs();
+            self.sums[key] += (number - self.base[key]).abs();
         }
     }
 }
 
-/// The places of each stage that coefficients can make largest; at the end of a wider tile those in
-/// the right half.
-fn best_places(size: Size, index: usize, before: usize) -> Vec<(Stage, Place)> {
-    let (width, rows) = (size.width, size.rows() + 1);
-    let mut reach = Reach { width, rows, sums: vec![0; stages::COUNT * rows * width] };
+/// Sets one coefficient after the other.
+fn reach(size: Size, index: usize) -> Reach {
+    let (width, rows) = (size.width, size.rows());
+    let zeros = vec![0; stages::COUNT * rows * width];
+    let mut reach = Reach { width, rows, base: zeros.clone(), sums: zeros.clone() };
     let mut c = Coefficients::new(size);
+    synthesize(&c, index, &mut reach);
+    reach.base = std::mem::replace(&mut reach.sums, zeros);
     for coordinate in coordinates(&c, index) {
         *at(&mut c, coordinate) = choices(coordinate.0)[0];
         synthesize(&c, index, &mut reach);
         *at(&mut c, coordinate) = 0;
     }
+    reach
+}
+
+/// The places of each stage that coefficients can make largest; at the end of a wider tile those in
+/// the right half.
+fn best_places(size: Size, index: usize, before: usize) -> Vec<(Stage, Place)> {
+    let reach = reach(size, index);
     let mut best = Vec::new();
     for stage in (stages::BAND_0.0..stages::COUNT).map(Stage) {
         let columns = size.width / 16 * stage.columns();
         let from = if before > 0 { columns / 2 } else { 0 };
-        let all = (0..rows).flat_map(|y| (from..columns).map(move |x| (y, x)));
+        let all = (0..size.rows()).flat_map(|y| (from..columns).map(move |x| (y, x)));
         let mut reached: Vec<(i64, Place)> = all.map(|p| (reach.sums[reach.key(stage, p)], p)).collect();
         reached.retain(|&(sum, _)| sum > STEPS[0] as i64);
         reached.sort_by_key(|&(sum, place)| (-sum, place));
@@ -404,14 +416,24 @@ mod tests {
         }
     }
 
-    /// A changed coefficient never makes a number smaller, and no sign that is turned makes it much
-    /// larger.
+    /// The numbers are as large as the influences in all, but for what floors and the steps' last
+    /// unit bring, and improving changes no more than that.
     #[test]
-    fn improving() {
-        let size = Size { width: 32, half: 9 };
-        let mut find = search(size, 0).into_iter().find(|find| find.goal.stage == stages::FOUR_O).unwrap();
-        let number = find.number;
-        find.improve();
-        assert!((number..number + 1000).contains(&find.number), "{number} {}", find.number);
+    fn no_more_than_the_influences() {
+        for (height, index) in [(16, 0), (18, 1), (32, 1), (34, 0)] {
+            let size = Size { width: 32, half: height / 2 };
+            let reach = reach(size, index);
+            let places = best_places(size, index, 0);
+            for (i, mut find) in by_signs(size, index, 0, &places).into_iter().enumerate() {
+                let signed = find.number.abs();
+                if i % 16 == 0 {
+                    find.improve();
+                }
+                let Goal { stage, place, .. } = find.goal;
+                let (number, most) = (find.number.abs(), reach.sums[reach.key(stage, place)]);
+                assert!((signed..signed + 100).contains(&number), "{:?}: {signed}, {number}", find.goal);
+                assert!((number - most).abs() < 100, "{:?}: {number}, {most}", find.goal);
+            }
+        }
     }
 }

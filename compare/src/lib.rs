@@ -38,5 +38,6 @@ pub mod streams;
 pub mod strips;
 pub mod sweep;
 pub mod vectors;
+pub mod watch;
 pub mod whole;
 pub mod written;

@@ -11,7 +11,8 @@ use crate::rng::Rng;
 use crate::size::{Shape, Size};
 use crate::stages::{self, thousands, STAGES};
 use crate::streams::{assemble, draw_parts, Stream, TILE_PACKETS};
-use crate::whole::{self, Coefficients, Held, Rows};
+use crate::watch::Held;
+use crate::whole::{self, Coefficients, Rows};
 use crate::written::{self, MOST_BYTES};
 
 /// The greatest selector of an ordinary tile.
@@ -67,7 +68,8 @@ impl Manner {
     }
 }
 
-/// A record of these manners and selectors, one of each for a component.
+/// A record of these manners and selectors, one of each for a component; a payload that no byte
+/// length can tell is cut.
 fn record(rng: &mut Rng, shape: Shape, manners: [Manner; 3], selectors: [u32; 3]) -> Record {
     let mut values = Vec::with_capacity(shape.numbers());
     for row in 0..shape.rows() {

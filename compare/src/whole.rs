@@ -1,27 +1,13 @@
 //! Document 01's 'Synthesis' on whole numbers: nothing is ever cut, and every number on the way is
-//! shown to a watcher. Beside it T.800's 5/3 filter, which each pass of a level is held against.
+//! shown to a watcher.
 
 use crate::oracle;
 use crate::size::Size;
 use crate::stages::{self, Part, Stage};
 use crate::streams::TILE_PACKETS;
+use crate::watch::{Place, Watch};
 
 pub type Rows = Vec<Vec<i64>>;
-
-/// A row and a column.
-pub type Place = (usize, usize);
-
-/// What is shown of a synthesis.
-pub trait Watch {
-    /// A number of a stage.
-    fn number(&mut self, stage: Stage, place: Place, number: i64);
-
-    /// A partial sum or the outcome of a shift on the way to a number of a stage.
-    fn on_the_way(&mut self, _stage: Stage, _number: i64) {}
-
-    /// One lift and what came out of it; `lead` is 1 if the high band leads.
-    fn pass(&mut self, _low: &[i64], _high: &[i64], _lead: usize, _outcome: &[i64]) {}
-}
 
 /// The coefficients of a tile's 13 packets.
 #[derive(Debug, Clone)]
@@ -226,26 +212,6 @@ fn lift(
     out
 }
 
-/// T.800's one-dimensional 5/3 synthesis of an interleaved signal whose first place is `first`,
-/// extended symmetrically at both ends.
-pub fn t800(signal: &[i64], first: i64) -> Vec<i64> {
-    let period = 2 * (signal.len() as i64 - 1);
-    let y = |i: i64| {
-        let along = (i - first).rem_euclid(period);
-        signal[along.min(period - along) as usize]
-    };
-    let even = |n: i64| y(2 * n) - (y(2 * n - 1) + y(2 * n + 1) + 2).div_euclid(4);
-    let odd = |n: i64| y(2 * n + 1) + (even(n) + even(n + 1)).div_euclid(2);
-    let x = |i: i64| if i % 2 == 0 { even(i / 2) } else { odd(i / 2) };
-    (first..first + signal.len() as i64).map(x).collect()
-}
-
-/// Both bands as one signal: the lows at even places, counted from `lead`.
-pub fn joined(low: &[i64], high: &[i64], lead: usize) -> Vec<i64> {
-    let place = |i: usize| if (i + lead) % 2 == 0 { low[i / 2] } else { high[i / 2] };
-    (0..low.len() + high.len()).map(place).collect()
-}
-
 /// The full green plane.
 pub fn green(c: &Coefficients, w: &mut impl Watch) -> Rows {
     let l = levels(c, 0, w);
@@ -291,42 +257,13 @@ fn all_columns(d: &[i64], here: &[i64], below: &[i64], y: usize, w: &mut impl Wa
     row
 }
 
-/// The largest magnitudes of the stages, and whether every pass was T.800's filter.
-#[derive(Debug, Clone, PartialEq, Eq)]
-pub struct Held {
-    pub largest: [i64; stages::COUNT],
-    pub all_within_32: bool,
-    pub all_filters: bool,
-}
-
-impl Default for Held {
-    fn default() -> Self {
-        Held { largest: [0; stages::COUNT], all_within_32: true, all_filters: true }
-    }
-}
-
-impl Watch for Held {
-    fn number(&mut self, stage: Stage, _place: Place, number: i64) {
-        self.on_the_way(stage, number);
-    }
-
-    fn on_the_way(&mut self, stage: Stage, number: i64) {
-        let largest = &mut self.largest[stage.0];
-        *largest = number.abs().max(*largest);
-        self.all_within_32 &= i32::try_from(number).is_ok();
-    }
-
-    fn pass(&mut self, low: &[i64], high: &[i64], lead: usize, outcome: &[i64]) {
-        self.all_filters &= t800(&joined(low, high, lead), lead as i64) == outcome;
-    }
-}
-
 #[cfg(test)]
 mod tests {
     use super::*;
     use crate::records::Recipe;
     use crate::rng::Rng;
     use crate::streams::{assemble, draw_parts};
+    use crate::watch::Held;
 
     /// Document 01's points on the line for lifts, E and the final green.
     #[test]
@@ -337,6 +274,9 @@ mod tests {
         assert_eq!(lift(&[10, 20], &[3, -5], 0), [8, 17, 20, 15]);
         assert_eq!(lift(&[8], &[3, 11], 1), [7, 4, 15]);
         assert!(held.all_filters && held.all_within_32);
+        let mut wrong = Held::default();
+        wrong.pass(&[10, 20], &[3, -5], 0, &[8, 17, 20, 16]);
+        assert!(!wrong.all_filters);
         let mut e = |v, odd| e(v, odd, (0, 0), &mut held);
         assert_eq!([e(2, false), e(-2, false), e(1, true), e(1, false)], [5, -5, 3, 2]);
         let o = odd_columns(&[10], &[4], &[4], 0, &mut held);
