@@ -3,7 +3,7 @@
 mod sample;
 
 use compare::ours::Ours;
-use compare::{bench, run, sweep, vectors};
+use compare::{bench, largest, ordinary, run, sweep, vectors};
 use std::process::ExitCode;
 
 const HELP: &str = "\
@@ -16,6 +16,13 @@ compare: the proved ARW6 tile decoder against the original in Rust
   compare sweep [--out FILE]
         the same for every byte value in the heads of small streams and strips, every length of
         them and every opening of 16 bits in a record
+  compare ordinary [--seed S] [--count N] [--out FILE]
+        N random tiles (default 10000) with selectors up to 4, held against a synthesis on whole
+        numbers, and one table with the largest magnitude of each stage. A mismatch ends with
+        status 1, and the shortest stream that fails is written to FILE (default mismatch.bin)
+  compare largest
+        a search for the largest numbers of such tiles, and tables of what was found; a tile on
+        which decoders and whole numbers part ends with status 1
   compare bench [--only tile|coefficients]
         thread CPU time of one tile, the best of 9, the original in serial order and ours
   compare vectors records|refusals|tiles|strips [--seed S] > FILE
@@ -52,6 +59,15 @@ fn command(words: &[String]) -> Result<ExitCode, String> {
         "sweep" => {
             let options = Options::parse(rest, &["--out"])?;
             tell(run::check_all(&Ours, sweep::cases()), &options)
+        }
+        "ordinary" => {
+            let options = Options::parse(rest, &["--seed", "--count", "--out"])?;
+            let (seed, count) = (options.number("--seed", 1)?, options.number("--count", 10_000)?);
+            tell_ordinary(ordinary::run(&Ours, seed, count as usize), &options)
+        }
+        "largest" => {
+            Options::parse(rest, &[])?;
+            Ok(if largest::run(&Ours) { ExitCode::SUCCESS } else { ExitCode::FAILURE })
         }
         "bench" => run_bench(&Options::parse(rest, &["--only"])?),
         "vectors" => {
@@ -105,6 +121,18 @@ fn tell((tally, failing): run::Outcome, options: &Options) -> Result<ExitCode, S
     let path = options.get("--out").unwrap_or("mismatch.bin");
     case.write(path).map_err(|e| format!("{path}: {e}"))?;
     println!("\nsmallest mismatch found, written to {path}: {}\n{what}", case.describe());
+    Ok(ExitCode::FAILURE)
+}
+
+/// Prints the table of ordinary tiles and writes the failing stream, if there is one.
+fn tell_ordinary((tally, failing): ordinary::Outcome, options: &Options) -> Result<ExitCode, String> {
+    tally.print();
+    let Some((stream, what)) = failing else {
+        return Ok(ExitCode::SUCCESS);
+    };
+    let path = options.get("--out").unwrap_or("mismatch.bin");
+    std::fs::write(path, &stream).map_err(|e| format!("{path}: {e}"))?;
+    println!("\nshortest mismatch, written to {path}: stream of {} bytes\n{what}", stream.len());
     Ok(ExitCode::FAILURE)
 }
 

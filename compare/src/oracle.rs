@@ -2,7 +2,7 @@
 
 use crate::original::{
     decode_component, decode_stream, find_streams, parse_directory, parse_packet, parse_stream_header,
-    CoeffBits, Packet, Plane,
+    CoeffBits, DirEntry, Packet, Plane,
 };
 use crate::size::{Shape, Size};
 use crate::streams::TILE_PACKETS;
@@ -96,13 +96,44 @@ pub fn decode(stream: &[u8], lent: [usize; 4]) -> Answer {
 
 /// Records over the tile's 13 packets whose status at the end is not 0.
 fn stopped_records(stream: &[u8], size: Size) -> Result<usize> {
-    let directory = parse_directory(stream)?;
+    let packets = tile_packets(stream, &parse_directory(stream)?);
     let mut stopped = 0;
-    for entry in directory.iter().filter(|e| e.index < TILE_PACKETS[e.group]) {
-        let packet = parse_packet(&stream[entry.start..entry.start + entry.length])?;
-        stopped += decode_records(&packet, size.shape(entry.group)).1;
+    for (group, packets) in packets.iter().enumerate() {
+        for packet in packets {
+            stopped += decode_records(&parse_packet(packet)?, size.shape(group)).1;
+        }
     }
     Ok(stopped)
+}
+
+/// The tile's packets by group and index.
+fn tile_packets<'a>(stream: &'a [u8], directory: &[DirEntry]) -> [Vec<&'a [u8]>; 5] {
+    std::array::from_fn(|group| {
+        let of_tile = directory.iter().filter(|e| e.group == group && e.index < TILE_PACKETS[group]);
+        of_tile.map(|e| &stream[e.start..e.start + e.length]).collect()
+    })
+}
+
+/// The coefficients of an accepted stream's 13 packets by group and index, record after record.
+pub fn tile_coefficients(stream: &[u8], size: Size) -> [Vec<Vec<i32>>; 5] {
+    let directory = parse_directory(stream).expect("the stream is accepted");
+    let packets = tile_packets(stream, &directory);
+    std::array::from_fn(|group| {
+        let numbers = |packet: &&[u8]| packet_coefficients(packet, size.shape(group), size.n() + 1);
+        packets[group].iter().map(|packet| numbers(packet).expect("the stream is accepted").0).collect()
+    })
+}
+
+/// The greatest selector in the records of an accepted stream's 13 packets.
+pub fn greatest_selector(stream: &[u8]) -> u32 {
+    let directory = parse_directory(stream).expect("the stream is accepted");
+    let greatest = |packet: &[u8]| {
+        let packet = parse_packet(packet).expect("the stream is accepted");
+        let selectors = packet.records.iter().flat_map(|r| &r.selectors[..packet.kind]);
+        selectors.max().map_or(0, |&s| s as u32)
+    };
+    let packets = tile_packets(stream, &directory);
+    packets.iter().flatten().map(|packet| greatest(packet)).max().unwrap_or(0)
 }
 
 /// Decodes a packet record by record, as the original's `packet_planes` does: the coefficients

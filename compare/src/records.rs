@@ -38,7 +38,7 @@ impl Recipe {
 
     /// Ordinary records alone, in the plain layout.
     pub fn ordinary(mean: f64, selectors: [u32; 2]) -> Self {
-        Recipe { mean, selectors, odd: 0, fewer: usize::MAX, loose: false, plain_layout: true }
+        Recipe { mean, selectors, odd: 0, fewer: u32::MAX as usize, loose: false, plain_layout: true }
     }
 }
 

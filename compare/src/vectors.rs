@@ -1,7 +1,7 @@
 //! The command `vectors`: fixed cases with the original's answers, in the format that README.md
 //! describes.
 
-use crate::oracle;
+use crate::oracle::{self, Planes};
 use crate::packets::{packet, Room};
 use crate::records::{draw_styled, Recipe, Style};
 use crate::rng::Rng;
@@ -9,6 +9,7 @@ use crate::size::{Shape, Size};
 use crate::streams::{assemble, draw_parts, push_directory_into_packet, Stream};
 use crate::strips::{draw_fallback_strip, draw_strip, draw_table_strip, edge_strips, Strip};
 
+mod ordinary;
 mod refusals;
 #[cfg(test)]
 mod tests;
@@ -37,6 +38,13 @@ impl Vectors {
 
     fn numbers(&mut self, numbers: &[i32]) {
         numbers.iter().for_each(|n| self.bytes.extend(n.to_le_bytes()));
+    }
+
+    /// Starts the case of an accepted tile; its planes follow.
+    fn tile_head(&mut self, stream: &[u8], planes: &Planes) {
+        let size = planes.size;
+        self.case(&[stream.len(), 0, size.width, size.height(), size.rows(), planes.stopped]);
+        self.bytes(stream);
     }
 
     fn finish(self) -> Vec<u8> {
@@ -156,6 +164,7 @@ fn tiles(rng: &mut Rng) -> Vectors {
         }
     }
     put_tile(&mut out, &directory_in_packet(rng).bytes);
+    ordinary::put_ordinary(&mut out, rng);
     out
 }
 
@@ -176,8 +185,6 @@ fn put_tile(out: &mut Vectors, stream: &[u8]) {
         }
         Ok(planes) => planes,
     };
-    let size = planes.size;
-    out.case(&[stream.len(), 0, size.width, size.height(), size.rows(), planes.stopped]);
-    out.bytes(stream);
+    out.tile_head(stream, &planes);
     [&planes.green, &planes.red, &planes.blue].into_iter().for_each(|p| out.numbers(p));
 }

@@ -80,7 +80,7 @@ fn records_read_back() {
 
 #[test]
 fn tiles_read_back() {
-    read_all("tiles", 200_000, |r| {
+    read_all("tiles", 500_000, |r| {
         let [length, refusal, width, height, rows, stopped] = r.words();
         let stream = r.take(length);
         let planes = [width, width / 2, width / 2].map(|columns| r.numbers(rows * columns));
