@@ -367,13 +367,11 @@ pub fn run(decoder: &impl Decoder) -> bool {
 
 /// The largest magnitudes of the stages, in narrow tiles and in the widest, with their bounds.
 fn print_magnitudes([narrow, wide]: &[[i64; stages::COUNT]; 2]) {
-    println!(
-        "| stage | largest found | in tiles up to 256 columns | every band as large as E | proof, below |"
-    );
-    println!("|---|---|---|---|---|");
-    for (i, (name, bound, proved)) in STAGES.into_iter().enumerate() {
-        let numbers = [wide[i].max(narrow[i]), narrow[i], bound].map(thousands);
-        println!("| {name} | {} | {} |", numbers.join(" | "), proved.map_or(String::new(), thousands));
+    println!("| stage | proved, at most | largest found | in tiles up to 256 columns |");
+    println!("|---|---|---|---|");
+    for (i, (name, bound)) in STAGES.into_iter().enumerate() {
+        let numbers = [bound, wide[i].max(narrow[i]), narrow[i]].map(thousands);
+        println!("| {name} | {} |", numbers.join(" | "));
     }
 }
 

@@ -286,7 +286,7 @@ impl Tally {
         line("  of these with a selector above 4", self.above);
         line("mismatches", self.mismatches);
         println!("\n{:<30}{:>16}{:>16}", "largest magnitude", "seen", "bound");
-        for (largest, (name, bound, _)) in self.largest.iter().zip(STAGES) {
+        for (largest, (name, bound)) in self.largest.iter().zip(STAGES) {
             println!("{name:<30}{:>16}{:>16}", thousands(*largest), thousands(bound));
         }
     }

@@ -1,5 +1,5 @@
-//! The stages between coefficients and planes, by name and in their order, with the bounds that
-//! interval arithmetic gives for selectors up to 4.
+//! The stages between coefficients and planes, by name and in their order, with the bounds that are
+//! proved for selectors up to 4.
 
 /// A stage, by its place in the list.
 #[derive(Debug, Clone, Copy, PartialEq, Eq)]
@@ -58,34 +58,33 @@ impl Stage {
     }
 }
 
-/// Each stage's name, its largest magnitude if every band were as large as E, and what the proof
-/// holds it below, where the proof names it.
-pub const STAGES: [(&str, i64, Option<i64>); COUNT] = [
-    ("coefficient", 8_388_599, Some(8_388_600)),
-    ("E", 16_777_199, Some(16_777_216)),
-    ("band 0, running sum", 134_184_960, Some(134_184_961)),
-    ("level 1, two highs and 2", 83_885_998, None),
-    ("level 1, two even results", 360_644_516, None),
-    ("level 1, lo", 159_350_759, None),
-    ("level 1, hi", 41_942_998, None),
-    ("level 1, outcome", 222_265_256, Some(222_265_349)),
-    ("level 2, two highs and 2", 83_885_998, None),
-    ("level 2, two even results", 536_805_108, None),
-    ("level 2, lo", 247_431_055, None),
-    ("level 2, hi", 41_942_998, None),
-    ("level 2, outcome", 310_345_552, Some(310_345_737)),
-    ("level 3, two highs and 2", 83_885_998, None),
-    ("level 3, two even results", 712_965_700, None),
-    ("level 3, lo", 335_511_351, None),
-    ("level 3, hi", 41_942_998, None),
-    ("level 3, outcome", 398_425_848, Some(398_426_125)),
-    ("red, blue", 398_425_848, Some(398_426_125)),
-    ("green, sum of four details", 33_554_396, None),
-    ("green, 2l", 796_851_696, None),
-    ("green, 2l - p", 805_240_295, None),
-    ("green, odd column o", 402_620_148, None),
-    ("green, sum of four o", 1_610_480_592, None),
-    ("green, even column", 411_008_747, Some(415_203_341)),
+/// Each stage's name, and what the proof holds its magnitude to (docs/BOUNDS.md).
+pub const STAGES: [(&str, i64); COUNT] = [
+    ("coefficient", 8_388_599),
+    ("E", 16_777_202),
+    ("band 0, running sum", 134_184_961),
+    ("level 1, two highs and 2", 41_943_005),
+    ("level 1, two even results", 314_507_228),
+    ("level 1, lo", 146_767_862),
+    ("level 1, hi", 20_971_501),
+    ("level 1, outcome", 178_225_115),
+    ("level 2, two highs and 2", 67_108_811),
+    ("level 2, two even results", 415_170_438),
+    ("level 2, lo", 190_808_016),
+    ("level 2, hi", 33_554_404),
+    ("level 2, outcome", 241_139_623),
+    ("level 3, two highs and 2", 67_108_811),
+    ("level 3, two even results", 540_999_454),
+    ("level 3, lo", 253_722_524),
+    ("level 3, hi", 33_554_404),
+    ("level 3, outcome", 304_054_131),
+    ("red, blue", 304_054_131),
+    ("green, sum of four details", 33_554_400),
+    ("green, 2l", 608_108_262),
+    ("green, 2l - p", 616_496_862),
+    ("green, odd column o", 308_248_432),
+    ("green, sum of four o", 1_232_993_728),
+    ("green, even column", 316_637_032),
 ];
 
 /// A number with its thousands apart.
@@ -105,26 +104,27 @@ pub fn thousands(number: i64) -> String {
 mod tests {
     use super::*;
 
-    /// The bounds once more, by interval arithmetic with every band as large as E.
+    /// The bounds once more, by the proof's steps: a sum lies below the sum of the bounds, a
+    /// quarter or a half of it is rounded up, and E stands in hh of levels 2 and 3 alone.
     #[test]
     fn bounds_by_intervals() {
         let bound = |stage: Stage| STAGES[stage.0].1;
-        let even = |low: i64, high: i64| low + (2 * high + 2) / 4;
+        let even = |low: i64, high: i64| low + (2 * high + 6) / 4;
         let lift = |low: i64, high: i64| high + even(low, high);
-        let (b, mut ll) = (bound(E), bound(BAND_0));
-        assert_eq!((b, ll), (2 * bound(COEFFICIENT) + 1, 4095 * 32_768));
+        let (c, e, mut ll) = (bound(COEFFICIENT) + 1, bound(E), bound(BAND_0));
+        assert_eq!((e, ll), (2 * c + 2, 4095 * 32_768 + 1));
         for level in 1..=3 {
             let of = |part| bound(of_level(level, part));
-            assert_eq!((of(Part::Lo), of(Part::Hi)), (lift(ll, b), lift(b, b)));
-            assert_eq!(of(Part::Highs), 2 * of(Part::Hi) + 2);
+            let hh = if level == 1 { c } else { e };
+            assert_eq!((of(Part::Lo), of(Part::Hi)), (lift(ll, c), lift(c, hh)));
+            assert_eq!(of(Part::Highs), 2 * of(Part::Hi) + 3);
             assert_eq!(of(Part::Evens), 2 * even(of(Part::Lo), of(Part::Hi)));
             ll = lift(of(Part::Lo), of(Part::Hi));
             assert_eq!(of(Part::Outcome), ll);
         }
-        let (details, p) = (4 * bound(COEFFICIENT), bound(COEFFICIENT));
-        assert_eq!((bound(COLOUR), bound(FOUR_DETAILS), bound(DOUBLED)), (ll, details, 2 * ll));
-        assert_eq!((bound(DOUBLED_LESS_P), bound(O)), (2 * ll + p, (2 * ll + p + 1) / 2));
-        assert_eq!((bound(FOUR_O), bound(EVEN)), (4 * bound(O), p + bound(O)));
+        assert_eq!((bound(COLOUR), bound(FOUR_DETAILS), bound(DOUBLED)), (ll, 4 * c, 2 * ll));
+        assert_eq!((bound(DOUBLED_LESS_P), bound(O)), (2 * ll + c, ll + c / 2 + 1));
+        assert_eq!((bound(FOUR_O), bound(EVEN)), (4 * bound(O), bound(O) + c));
     }
 
     #[test]
