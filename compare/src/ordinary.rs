@@ -341,8 +341,7 @@ fn ordinary(tally: &mut Tally, stream: &[u8], damaged: bool) -> Option<Planes> {
 #[cfg(test)]
 mod tests {
     use super::*;
-    use crate::ours::mock::Mock;
-    use crate::ours::Decoded;
+    use crate::ours::mock::{Mistaken, Mock};
 
     #[test]
     fn all_sorts_are_drawn() {
@@ -354,28 +353,9 @@ mod tests {
         assert_eq!(tally.largest[..2], [8_388_599, 16_777_199]);
     }
 
-    /// A decoder with one number wrong.
-    struct Mistaken;
-
-    impl Decoder for Mistaken {
-        fn tile_count(&self, strip: &[u8], frame: (usize, usize)) -> usize {
-            Mock.tile_count(strip, frame)
-        }
-
-        fn tile_field(&self, strip: &[u8], frame: (usize, usize), ordinal: usize, field: usize) -> usize {
-            Mock.tile_field(strip, frame, ordinal, field)
-        }
-
-        fn decode_stream(&self, stream: &[u8], slices: &mut Slices) -> Decoded {
-            let decoded = Mock.decode_stream(stream, slices);
-            slices[2][3] ^= 1;
-            decoded
-        }
-    }
-
     #[test]
     fn a_mistake_is_found() {
-        let (tally, failing) = run(&Mistaken, 1, 20);
+        let (tally, failing) = run(&Mistaken(|_, slices, _| slices[2][3] ^= 1), 1, 20);
         assert_eq!(tally.mismatches, 20);
         assert!(failing.is_some_and(|(_, what)| what.starts_with("blue of the library[3]: ")));
     }

@@ -110,7 +110,7 @@ pub fn check_all(decoder: &impl Decoder, cases: impl Iterator<Item = Case>) -> O
 mod tests {
     use super::*;
     use crate::check::{Case, Seen};
-    use crate::ours::mock::Mock;
+    use crate::ours::mock::{Mistaken, Mock};
     use crate::ours::{Decoded, Slices};
 
     #[test]
@@ -128,25 +128,6 @@ mod tests {
         let draw = |seed| draw_case(&mut Rng::new(seed));
         assert!((0..50).all(|seed| draw(seed) == draw(seed)));
         assert_ne!(draw(1), draw(2));
-    }
-
-    /// A decoder with one mistake.
-    struct Mistaken(fn(&[u8], &mut Slices, &mut Decoded));
-
-    impl Decoder for Mistaken {
-        fn tile_count(&self, strip: &[u8], frame: (usize, usize)) -> usize {
-            Mock.tile_count(strip, frame)
-        }
-
-        fn tile_field(&self, strip: &[u8], frame: (usize, usize), ordinal: usize, field: usize) -> usize {
-            Mock.tile_field(strip, frame, ordinal, field)
-        }
-
-        fn decode_stream(&self, stream: &[u8], slices: &mut Slices) -> Decoded {
-            let mut decoded = Mock.decode_stream(stream, slices);
-            (self.0)(stream, slices, &mut decoded);
-            decoded
-        }
     }
 
     #[test]

@@ -51,3 +51,24 @@ fn write(planes: oracle::Planes, [green, red, blue, work]: &mut Slices) -> Decod
         stopped: planes.stopped as u64,
     }
 }
+
+/// A decoder with one mistake.
+#[cfg(test)]
+pub struct Mistaken(pub fn(&[u8], &mut Slices, &mut Decoded));
+
+#[cfg(test)]
+impl Decoder for Mistaken {
+    fn tile_count(&self, strip: &[u8], frame: (usize, usize)) -> usize {
+        Mock.tile_count(strip, frame)
+    }
+
+    fn tile_field(&self, strip: &[u8], frame: (usize, usize), ordinal: usize, field: usize) -> usize {
+        Mock.tile_field(strip, frame, ordinal, field)
+    }
+
+    fn decode_stream(&self, stream: &[u8], slices: &mut Slices) -> Decoded {
+        let mut decoded = Mock.decode_stream(stream, slices);
+        (self.0)(stream, slices, &mut decoded);
+        decoded
+    }
+}
