@@ -3,25 +3,25 @@
 -- 536,870,912. Assumes nothing.
 use mathlib.Core.Path.{_≡_, refl, sym, ap, _∙_, subst}
 use mathlib.Core.Bool.{Bool}
-use mathlib.Core.List.{List, _∷_, _++_, map, map-append, map-id}
-use Prim.Native.Nat.{ℕ, zero, suc, _≤_, _<_}
+use mathlib.Core.List.{List, map}
+use Prim.Native.Nat.{ℕ, _≤_, _<_}
 use native.Mathlib.Omega.{arith}
 use lib.IntN.{ℤ, pos, negsuc, natAbs}
 use lib.Signed.{mag}
 use Rattle.wrap32.specs.Arithmetic.{wrapping, whole, number, checked}
 use Rattle.wrap32.proofs.Faithful.{wrapping-faithful, checked-faithful, number-of}
-use Rattle.lists.specs.Lists.{tab, rows}
 use Rattle.format.specs.Sizes.{Colour, green, Level, detail, stripes, guarded}
 use Rattle.format.specs.Strip.{width, codedHeight}
 use Rattle.format.specs.Coefficients.{coefs}
-use Rattle.format.specs.Lifting.{PlaneOf, Plane}
+use Rattle.format.specs.Lifting.{Plane}
 use Rattle.format.specs.Table.{height, hl, lh, hh}
 use Rattle.format.specs.Synthesis.{bands, planes}
 use Rattle.format.specs.Ordinary.{OrdinarySelectors, Ordinary, filteredPlanes, Filtered, AtMost, Bounded}
 use Rattle.format.proofs.Exact.{tall-of}
+use Rattle.format.proofs.PlaceLaws.{flat-same, flat-map}
 use Rattle.format.proofs.Accepted.{Good}
 use Rattle.format.proofs.Accepted as accept
-use Rattle.format.proofs.Ranges.{Each, none, more, each-join, LowSelectors, small-coefs}
+use Rattle.format.proofs.Ranges.{Each, each-flat, LowSelectors, small-coefs}
 use Rattle.format.proofs.Bounds.{Over, Fair, ll-is, step-lo, step-hi, outcome-is, odds-are, plane-is}
 use Rattle.format.proofs.Filtered as filter
 
@@ -33,31 +33,7 @@ low-selectors s ok low l i t c h k =
     let four = low (detail l) i t c refl h (omega (arith, three)) in
     omega arith
 
--- ---- rows of numbers, place by place
-module _ {N : Type 0} (f : ℤ → N) where
-  tab-map : (w : ℕ) (p : ℕ → N) (q : ℕ → ℤ) → ((x : ℕ) → x < w → p x ≡ f (q x)) → tab w p ≡ map f (tab w q)
-  unfolding tab
-  tab-map zero p q e = refl
-  tab-map (suc w) p q e = λ i. e zero (omega arith) i ∷ tab-map w (λ x. p (suc x)) (λ x. q (suc x)) (λ x h. e (suc x) (omega arith)) i
-
-  pub rows-map : (h w : ℕ) (p : PlaneOf N) (q : Plane) → ((y x : ℕ) → y < h → x < w → p y x ≡ f (q y x)) → rows h (λ y. tab w (p y)) ≡ map f (rows h (λ y. tab w (q y)))
-  unfolding rows
-  rows-map zero w p q e = refl
-  rows-map (suc h) w p q e =
-      (λ i. rows-map h w p q (λ y x a b. e y x (omega arith) b) i ++ tab-map w (p h) (q h) (λ x b. e h x (omega arith) b) i)
-      ∙ sym (map-append f (rows h (λ y. tab w (q y))) (tab w (q h)))
-
-module _ (P : ℤ → Type 0) (nought : P (pos 0)) where
-  each-tab : (w : ℕ) (q : ℕ → ℤ) → ((x : ℕ) → x < w → P (q x)) → Each P (tab w q)
-  unfolding tab
-  each-tab zero q e = none
-  each-tab (suc w) q e = more (q zero) _ (e zero (omega arith)) (each-tab w (λ x. q (suc x)) (λ x h. e (suc x) (omega arith)))
-
-  each-rows : (h w : ℕ) (q : Plane) → ((y x : ℕ) → y < h → x < w → P (q y x)) → Each P (rows h (λ y. tab w (q y)))
-  unfolding rows
-  each-rows zero w q e = none
-  each-rows (suc h) w q e = each-join P nought _ _ (each-rows h w q (λ y x a b. e y x (omega arith) b)) (each-tab w (q h) (λ x b. e h x (omega arith) b))
-
+-- ---- magnitudes
 mag-less : (z : ℤ) (m : ℕ) → natAbs z < m → mag z < m
 mag-less (pos n) m h = h
 mag-less (negsuc n) m h = omega arith
@@ -92,26 +68,27 @@ module _ (s : List ℕ) (o : Ordinary s) where
   -- the planes are those of whole numbers: nothing is cut
   pub planes-are-whole : (i : Colour) → planes wrapping (width s) (codedHeight s) (coefs s) i ≡ planes whole (width s) (codedHeight s) (coefs s) i
   unfolding planes
-  planes-are-whole i = rows-map (λ z. z) _ _ _ _ (λ y x p q. plane-is wrapping wrapping-faithful fair i y x p q .same) ∙ map-id _
+  planes-are-whole i = flat-same _ _ _ _ (λ y x p q. plane-is wrapping wrapping-faithful fair i y x p q .same)
 
   -- no sum, doubling or shift leaves signed 32 bits: in checked arithmetic every number of the planes is there, and is what it is
   pub none-leaves : (i : Colour) → planes checked (width s) (codedHeight s) (coefs s) i ≡ map number (planes wrapping (width s) (codedHeight s) (coefs s) i)
   unfolding planes
   none-leaves i =
-      rows-map number _ _ _ _ (λ y x p q. let z = plane-is checked checked-faithful fair i y x p q in z .same ∙ number-of _ (omega (arith, z .below)))
+      flat-same _ _ _ _ (λ y x p q. let z = plane-is checked checked-faithful fair i y x p q in z .same ∙ number-of _ (omega (arith, z .below)))
+      ∙ flat-map number _ _ _
       ∙ ap (map number) (sym (planes-are-whole i))
 
   -- the planes are those of T.800's filter on whole numbers, through the three levels
   pub planes-are-filtered : (i : Colour) → planes wrapping (width s) (codedHeight s) (coefs s) i ≡ filteredPlanes (width s) (codedHeight s) (coefs s) i
   unfolding planes filteredPlanes
   planes-are-filtered i =
-      planes-are-whole i ∙ rows-map (λ z. z) _ _ _ _ (filter.plane-is g n (width s) (fair .tall) (good .whole) (good .wide) (coefs s) i) ∙ map-id _
+      planes-are-whole i ∙ flat-same _ _ _ _ (filter.plane-is g n (width s) (fair .tall) (good .whole) (good .wide) (coefs s) i)
 
   -- every number of the planes lies strictly between -536,870,912 and 536,870,912
   pub planes-are-small : (i : Colour) → Each (λ z. natAbs z < 536870912) (planes wrapping (width s) (codedHeight s) (coefs s) i)
   unfolding planes
   planes-are-small i =
-      each-rows (λ z. natAbs z < 536870912) (omega arith) _ _ _ (λ y x p q. omega (arith, at-most _ _ _ _ _ (plane-is wrapping wrapping-faithful fair i) y x p q))
+      each-flat (λ z. natAbs z < 536870912) (omega arith) _ _ _ (λ y x p q. omega (arith, at-most _ _ _ _ _ (plane-is wrapping wrapping-faithful fair i) y x p q))
 
   -- at each level ll, lo and hi are what the filter alone gives
   pub levels-are-filtered : (l : Level) (i : Colour) → Filtered g n (width s) i (coefs s) l

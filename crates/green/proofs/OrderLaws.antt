@@ -18,8 +18,9 @@ use Rattle.format.specs.Lifting.{PlaneOf, Plane}
 use Rattle.format.specs.Table.{chosen}
 use Rattle.format.specs.Synthesis.{outcome, guess, around, oddGreen, evenGreen, bothGreens, flat, planes}
 use Rattle.format.specs.Ordinary.{Ordinary}
+use Rattle.format.proofs.PlaceLaws.{flat-same, flat-map}
 use Rattle.format.proofs.Bounds.{Over, weave-is, outcome-is, details-are}
-use Rattle.format.proofs.Ordinary.{rows-map, fair, planes-are-whole}
+use Rattle.format.proofs.Ordinary.{fair, planes-are-whole}
 use Rattle.green.specs.Green.{quarterOf, right}
 use Rattle.green.specs.Order.{oddsBy, evensBy, greensBy}
 use Rattle.green.proofs.GreenLaws.{green-half}
@@ -109,8 +110,9 @@ pub none-leaves : (s : List ℕ) (o : Ordinary s)
 unfolding planes
 none-leaves s o =
     let f = fair s o in
-    rows-map number _ _ _ _
+    flat-same _ _ _ _
     (λ y x p q.
     let z = greens-by checked checked-faithful (planeRowsOf (codedHeight s)) (width s / 2) 304054131 _ _ _ _ (omega arith) (outcome-is checked checked-faithful f green) (details-are checked checked-faithful f _ _) y x p (omega (arith, f .even)) in
     z .same ∙ number-of _ (omega (arith, z .below)))
+    ∙ flat-map number _ _ _
     ∙ ap (map number) (sym (planes-are-whole s o green))
