@@ -42,7 +42,10 @@ struct arw6_decoded {
 
    Lent, and never kept: green for R by w numbers, red and blue for R by w / 2, row after row; work for 16 (n + 1) w. Lengths are in
    numbers, and longer slices are fine. Refused, no element of any slice changes. Accepted, the planes stand at the start of their slices, the
-   first 16 (n + 1) w numbers of work are 0, and elements past these lengths are as they were. */
+   first 16 (n + 1) w numbers of work are 0, and elements past these lengths are as they were.
+
+   In an ordinary frame, where no record has a selector above 4, every number of the planes lies strictly between -536,870,912 and
+   536,870,912, so the sum and the difference of two fit int32_t. */
 struct arw6_decoded arw6_decode_stream(const uint8_t *stream, size_t stream_len, int32_t *green, size_t green_len, int32_t *red, size_t red_len, int32_t *blue, size_t blue_len, int32_t *work, size_t work_len);
 
 #ifdef __cplusplus

@@ -2,7 +2,9 @@
 
 use crate::{ffi, Lengths, Refusal};
 
-/// A 2-D plane of numbers, row after row.
+/// A 2-D plane of numbers, row after row. In an ordinary frame, where no record has a selector above
+/// 4, every number lies strictly between -536,870,912 and 536,870,912, so the sum and the difference
+/// of two fit an `i32`.
 #[derive(Debug, Clone, Default, PartialEq, Eq)]
 pub struct Plane {
     pub rows: usize,
