@@ -19,13 +19,13 @@ use Rattle.format.specs.Coefficients.{Coefs}
 use Rattle.format.specs.Lifting.{SignalOf, PlaneOf, Signal, Plane, weave, Lead, lowLeads, highLeads, join, taken, added, lowOut, highOut, lift, Shape}
 use Rattle.format.specs.Table.{start, height, lead, highs, Source, S, E, Band, hl, lh, hh, source, bandRows, mode, chosen}
 use Rattle.format.specs.Synthesis.{sumOf, down, level, value, bands, step, ll1, ll2, ll3, llAt, outcome, guess, around, oddGreen, evenGreen, bothGreens, planeOf}
-use Rattle.format.specs.Ordinary.{llMost, loMost, hiMost}
+use Rattle.format.specs.Ordinary.{coefMost, bandMost, llMost, loMost, hiMost}
 use Rattle.format.proofs.TableLaws.{Straight, straight, straight-1, straight-hl, straight-lh}
 use Rattle.format.proofs.Exact.{Tall, shape, rows-after}
 
 module _ {N : Type 0} (A : Arithmetic N) where
   -- n numbers, and h rows of w, are those whole numbers, which lie below m
-  abbrev pub On : ℕ → ℕ → SignalOf N → Signal → Type 0
+  abbrev On : ℕ → ℕ → SignalOf N → Signal → Type 0
   On n m f g = (k : ℕ) → k < n → Is A m (f k) (g k)
 
   abbrev pub Over : ℕ → ℕ → ℕ → PlaneOf N → Plane → Type 0
@@ -42,23 +42,12 @@ module _ {N : Type 0} (A : Arithmetic N) where
       weave-is m n b g f g′ f′ (⊎-elim (λ r. omega arith) (λ r. omega arith) (e .1)) (⊎-elim (λ r. omega arith) (λ r. omega arith) (e .1)) q p k (omega arith)
 
 -- lows below a and highs below b: what is taken off a low lies below a quarter of 2 b + 6, and the results below `grown a b`
-abbrev pub grown : ℕ → ℕ → ℕ
+abbrev grown : ℕ → ℕ → ℕ
 grown a b = b + (a + (b + b + 6) / 4)
 
--- a level's ll below a, hl and lh below c, hh below e: lo, then hi, then the outcome
-abbrev pub leveled : ℕ → ℕ → ℕ → ℕ
-leveled a c e = grown (grown a c) (grown c e)
-
-abbrev pub bandBound : ℕ → ℕ → Band → ℕ
-bandBound c e hl = c
-bandBound c e lh = c
-bandBound c e hh = e
-
--- E goes in only in hh of levels 2 and 3
-abbrev pub rowBound : Level → Band → ℕ
-rowBound l1 b = bandBound 8388600 8388600 b
-rowBound l2 b = bandBound 8388600 16777202 b
-rowBound l3 b = bandBound 8388600 16777202 b
+-- a level's ll below a, its bands below e: lo, then hi, then the outcome
+abbrev leveled : ℕ → (Band → ℕ) → ℕ
+leveled a e = grown (grown a (e lh)) (grown (e hl) (e hh))
 
 module _ {N : Type 0} (A : Arithmetic N) (ok : Faithful A) where
   -- ---- lifting n lows below a and m highs below b
@@ -101,22 +90,22 @@ module _ {N : Type 0} (A : Arithmetic N) (ok : Faithful A) where
     unfolding highOut
     high-is y h = plus-is A ok (s y h) (added-is y h) (omega arith)
 
-    pub lift-is : On A (n + m) (grown a b) (lift A d n m lo hi) (lift whole d n m lo′ hi′)
+    lift-is : On A (n + m) (grown a b) (lift A d n m lo hi) (lift whole d n m lo′ hi′)
     unfolding lift
     lift-is = join-is A d n m (grown a b) _ _ _ _ e (λ k h. weaker A (low-is k h) (omega arith)) high-is
 
   -- ---- a level of h rows of w
-  module _ (d : Lead) (h m w a c e : ℕ) (ll : PlaneOf N) (b : Band → PlaneOf N) (ll′ : Plane) (b′ : Band → Plane) (f : Shape d h m) (p : leveled a c e ≤ 2 ^ 29) (r : Over A h w a ll ll′) (s : (k : Band) → Over A (bandRows h m k) w (bandBound c e k) (b k) (b′ k)) where
-    pub lo-is : Over A (h + m) w (grown a c) (down A d h m ll (b lh)) (down whole d h m ll′ (b′ lh))
-    lo-is y x u v = lift-is d h m a c _ _ _ _ f (omega arith) (omega arith) (λ k z. r k x z v) (λ k z. s lh k x z v) y u
+  module _ (d : Lead) (h m w a : ℕ) (e : Band → ℕ) (ll : PlaneOf N) (b : Band → PlaneOf N) (ll′ : Plane) (b′ : Band → Plane) (f : Shape d h m) (p : leveled a e ≤ 2 ^ 29) (r : Over A h w a ll ll′) (s : (k : Band) → Over A (bandRows h m k) w (e k) (b k) (b′ k)) where
+    lo-is : Over A (h + m) w (grown a (e lh)) (down A d h m ll (b lh)) (down whole d h m ll′ (b′ lh))
+    lo-is y x u v = lift-is d h m a (e lh) _ _ _ _ f (omega arith) (omega arith) (λ k z. r k x z v) (λ k z. s lh k x z v) y u
 
-    pub hi-is : Over A (h + m) w (grown c e) (down A d h m (b hl) (b hh)) (down whole d h m (b′ hl) (b′ hh))
-    hi-is y x u v = lift-is d h m c e _ _ _ _ f (omega arith) (omega arith) (λ k z. s hl k x z v) (λ k z. s hh k x z v) y u
+    hi-is : Over A (h + m) w (grown (e hl) (e hh)) (down A d h m (b hl) (b hh)) (down whole d h m (b′ hl) (b′ hh))
+    hi-is y x u v = lift-is d h m (e hl) (e hh) _ _ _ _ f (omega arith) (omega arith) (λ k z. s hl k x z v) (λ k z. s hh k x z v) y u
 
-    pub level-is : Over A (h + m) (w + w) (leveled a c e) (level A d h m w ll b) (level whole d h m w ll′ b′)
+    level-is : Over A (h + m) (w + w) (leveled a e) (level A d h m w ll b) (level whole d h m w ll′ b′)
     unfolding level
     level-is y x u v =
-        lift-is lowLeads w w (grown a c) (grown c e) _ _ _ _ refl (omega arith) (omega arith) (λ k z. lo-is y k u z) (λ k z. hi-is y k u z) x v
+        lift-is lowLeads w w (grown a (e lh)) (grown (e hl) (e hh)) _ _ _ _ refl (omega arith) (omega arith) (λ k z. lo-is y k u z) (λ k z. hi-is y k u z) x v
 
   -- ---- band 0: a running sum of k numbers of 16 bits
   sum-is : (f : Signal) → ((k : ℕ) → mag (f k) < 2 ^ 15) → (k : ℕ) → k ≤ 4095 → Is A (k * 2 ^ 15 + 1) (sumOf A f k) (sumOf whole f k)
@@ -125,18 +114,18 @@ module _ {N : Type 0} (A : Arithmetic N) (ok : Faithful A) where
   sum-is f b (suc k) h = weaker A (plus-is A ok (sum-is f b k (omega arith)) (of-is A (2 ^ 15) (f k) (b k)) (omega arith)) (omega arith)
 
   -- ---- the final green of h rows, from averages below a and details below 8,388,600
-  module _ (h c a : ℕ) (l d : PlaneOf N) (l′ d′ : Plane) (p : a ≤ 2 ^ 28 + 2 ^ 27) (r : Over A h c a l l′) (s : Over A h c 8388600 d d′) where
+  module _ (h c a : ℕ) (l d : PlaneOf N) (l′ d′ : Plane) (p : a ≤ 2 ^ 28 + 2 ^ 27) (r : Over A h c a l l′) (s : Over A h c coefMost d d′) where
     four-is : (m : ℕ) → m ≤ 2 ^ 29 → {t u v w : N} {t′ u′ v′ w′ : ℤ} → Is A m t t′ → Is A m u u′ → Is A m v v′ → Is A m w w′ → Is A m (A .shift (A .plus (A .plus (A .plus t u) v) w) 4) (shrZ (t′ +ℤ u′ +ℤ v′ +ℤ w′) 4)
     four-is m b t u v w = weaker A (quarter-is A ok (plus-is A ok (plus-is A ok (plus-is A ok t u (omega arith)) v (omega arith)) w (omega arith)) (omega arith)) (omega arith)
 
-    guess-is : Over A h c 8388600 (guess A c d) (guess whole c d′)
+    guess-is : Over A h c coefMost (guess A c d) (guess whole c d′)
     unfolding guess
     guess-is y x u v =
         let z : min (x + 1) (c - 1) < c = omega arith in
         let k : y - 1 < h = omega arith in
-        four-is 8388600 (omega arith) (s (y - 1) x k v) (s y x u v) (s (y - 1) (min (x + 1) (c - 1)) k z) (s y (min (x + 1) (c - 1)) u z)
+        four-is coefMost (omega arith) (s (y - 1) x k v) (s y x u v) (s (y - 1) (min (x + 1) (c - 1)) k z) (s y (min (x + 1) (c - 1)) u z)
 
-    pub odd-is : Over A h c (a + 4194301) (oddGreen A c l d) (oddGreen whole c l′ d′)
+    odd-is : Over A h c (a + 4194301) (oddGreen A c l d) (oddGreen whole c l′ d′)
     unfolding oddGreen
     odd-is y x u v =
         let z = half-is A ok (minus64-is A ok (plus64-is A ok (r y x u v) (r y x u v) (omega arith)) (guess-is y x u v) (omega arith)) (omega arith) in
@@ -152,7 +141,7 @@ module _ {N : Type 0} (A : Arithmetic N) (ok : Faithful A) where
         (λ _. weaker A (half-is A ok (plus-is A ok (odd-is y 0 u o) (odd-is (min (y + 1) (h - 1)) 0 z o) (omega arith)) (omega arith)) (omega arith))
         (λ _. four-is (a + 4194301) (omega arith) (odd-is y (x - 1) u k) (odd-is (min (y + 1) (h - 1)) (x - 1) z k) (odd-is y x u v) (odd-is (min (y + 1) (h - 1)) x z v))
 
-    pub greens-is : Over A h (c + c) (a + 12582901) (bothGreens A h c l d) (bothGreens whole h c l′ d′)
+    greens-is : Over A h (c + c) (a + 12582901) (bothGreens A h c l d) (bothGreens whole h c l′ d′)
     unfolding bothGreens evenGreen
     greens-is y x u v =
         weave-is A c c (a + 12582901) _ _ _ _ (omega arith) (omega arith)
@@ -160,22 +149,18 @@ module _ {N : Type 0} (A : Arithmetic N) (ok : Faithful A) where
         (λ k z. weaker A (odd-is y k u z) (omega arith)) x v
 
   -- ---- a row of a band
-  row-is : (odd : Bool) (v : ℕ → Plane) (x : ℕ) → ((c r : ℕ) → mag (v c r x) < 8388600) → (s : Source) → Is A 16777202 (value A odd s v x) (value whole odd s v x)
+  row-is : (odd : Bool) (v : ℕ → Plane) (x : ℕ) → ((c r : ℕ) → mag (v c r x) < coefMost) → (s : Source) → Is A 16777202 (value A odd s v x) (value whole odd s v x)
   row-is odd v x f (S c r) = of-is A 16777202 (v c r x) (omega (arith, f c r))
-  row-is odd v x f (E c r) = edge-is A ok odd 8388600 (v c r x) (f c r) (omega arith)
+  row-is odd v x f (E c r) = edge-is A ok odd coefMost (v c r x) (f c r) (omega arith)
 
-  straight-is : (odd : Bool) (v : ℕ → Plane) (x : ℕ) → ((c r : ℕ) → mag (v c r x) < 8388600) → (s : Source) → Straight s → Is A 8388600 (value A odd s v x) (value whole odd s v x)
-  straight-is odd v x f s (straight c r) = of-is A 8388600 (v c r x) (f c r)
+  straight-is : (odd : Bool) (v : ℕ → Plane) (x : ℕ) → ((c r : ℕ) → mag (v c r x) < coefMost) → (s : Source) → Straight s → Is A coefMost (value A odd s v x) (value whole odd s v x)
+  straight-is odd v x f s (straight c r) = of-is A coefMost (v c r x) (f c r)
 
-  pub band-is : (odd : Bool) (v : ℕ → Plane) (x : ℕ) → ((c r : ℕ) → mag (v c r x) < 8388600) → (g : Bool) (l : Level) (h : ℕ) (b : Band) (y : ℕ) → Is A (rowBound l b) (value A odd (source g l h b y) v x) (value whole odd (source g l h b y) v x)
-  band-is odd v x f g l1 h hl y = straight-is odd v x f _ (straight-1 g h hl y)
-  band-is odd v x f g l1 h lh y = straight-is odd v x f _ (straight-1 g h lh y)
+  band-is : (odd : Bool) (v : ℕ → Plane) (x : ℕ) → ((c r : ℕ) → mag (v c r x) < coefMost) → (g : Bool) (l : Level) (h : ℕ) (b : Band) (y : ℕ) → Is A (bandMost l b) (value A odd (source g l h b y) v x) (value whole odd (source g l h b y) v x)
+  band-is odd v x f g l h hl y = straight-is odd v x f _ (straight-hl g l h y)
+  band-is odd v x f g l h lh y = straight-is odd v x f _ (straight-lh g l h y)
   band-is odd v x f g l1 h hh y = straight-is odd v x f _ (straight-1 g h hh y)
-  band-is odd v x f g l2 h hl y = straight-is odd v x f _ (straight-hl g l2 h y)
-  band-is odd v x f g l2 h lh y = straight-is odd v x f _ (straight-lh g l2 h y)
   band-is odd v x f g l2 h hh y = row-is odd v x f (source g l2 h hh y)
-  band-is odd v x f g l3 h hl y = straight-is odd v x f _ (straight-hl g l3 h y)
-  band-is odd v x f g l3 h lh y = straight-is odd v x f _ (straight-lh g l3 h y)
   band-is odd v x f g l3 h hh y = row-is odd v x f (source g l3 h hh y)
 
 -- ---- a tile of a coded size, with coefficients below 8,388,600 in the packets that it has
@@ -183,29 +168,24 @@ pub record Fair (g : Bool) (n w : ℕ) (v : Coefs) : Type 0 where
   pub tall : Tall g n
   pub even : w % 16 ≡ 0
   pub narrow : w < 2 ^ 16
-  pub below : (m : Group) (i : Colour) (c r x : ℕ) → present m i ≡ true → mag (v m i c r x) < 8388600
+  pub below : (m : Group) (i : Colour) (c r x : ℕ) → present m i ≡ true → mag (v m i c r x) < coefMost
 
-bounds-fit : (l : Level) → leveled (llMost l) 8388600 (rowBound l hh) ≤ 2 ^ 29
+bounds-fit : (l : Level) → leveled (llMost l) (bandMost l) ≤ 2 ^ 29
 bounds-fit l1 = omega arith
 bounds-fit l2 = omega arith
 bounds-fit l3 = omega arith
 
 module _ {N : Type 0} (A : Arithmetic N) (ok : Faithful A) {g : Bool} {n w : ℕ} {v : Coefs} (z : Fair g n w v) where
-  bands-are : (i : Colour) (l : Level) (b : Band) (h w : ℕ) → Over A h w (bandBound 8388600 (rowBound l hh) b) (bands A g l (height g n l) i (v (detail l) i) b) (bands whole g l (height g n l) i (v (detail l) i) b)
-  bands-are i l b h w y x p q = by l b (band-is A ok (mode l i) (v (detail l) i) x (λ c r. z .below (detail l) i c r x refl) g l (height g n l) b y)
-    where
-      by : (l : Level) (b : Band) {a : N} {z : ℤ} → Is A (rowBound l b) a z → Is A (bandBound 8388600 (rowBound l hh) b) a z
-      by l1 b p = p
-      by l2 b p = p
-      by l3 b p = p
+  pub bands-are : (i : Colour) (l : Level) (b : Band) (h w : ℕ) → Over A h w (bandMost l b) (bands A g l (height g n l) i (v (detail l) i) b) (bands whole g l (height g n l) i (v (detail l) i) b)
+  bands-are i l b h w y x p q = band-is A ok (mode l i) (v (detail l) i) x (λ c r. z .below (detail l) i c r x refl) g l (height g n l) b y
 
   module _ (i : Colour) (l : Level) (ll : PlaneOf N) (ll′ : Plane) (r : Over A (height g n l) (columns w (detail l)) (llMost l) ll ll′) where
     pub step-lo : Over A (height g n l + highs g l (height g n l)) (columns w (detail l)) (loMost l)
         (down A (lead g l) (height g n l) (highs g l (height g n l)) ll (bands A g l (height g n l) i (v (detail l) i) lh))
         (down whole (lead g l) (height g n l) (highs g l (height g n l)) ll′ (bands whole g l (height g n l) i (v (detail l) i) lh))
-    step-lo y x p q = weaker A (lo-is A ok _ _ _ _ (llMost l) 8388600 (rowBound l hh) _ _ _ _ (shape g n l (z .tall)) (bounds-fit l) r (λ b. bands-are i l b _ _) y x p q) (by l)
+    step-lo y x p q = weaker A (lo-is A ok _ _ _ _ (llMost l) (bandMost l) _ _ _ _ (shape g n l (z .tall)) (bounds-fit l) r (λ b. bands-are i l b _ _) y x p q) (by l)
       where
-        by : (l : Level) → grown (llMost l) 8388600 ≤ loMost l
+        by : (l : Level) → grown (llMost l) (bandMost l lh) ≤ loMost l
         by l1 = omega arith
         by l2 = omega arith
         by l3 = omega arith
@@ -213,15 +193,15 @@ module _ {N : Type 0} (A : Arithmetic N) (ok : Faithful A) {g : Bool} {n w : ℕ
     pub step-hi : Over A (height g n l + highs g l (height g n l)) (columns w (detail l)) (hiMost l)
         (down A (lead g l) (height g n l) (highs g l (height g n l)) (bands A g l (height g n l) i (v (detail l) i) hl) (bands A g l (height g n l) i (v (detail l) i) hh))
         (down whole (lead g l) (height g n l) (highs g l (height g n l)) (bands whole g l (height g n l) i (v (detail l) i) hl) (bands whole g l (height g n l) i (v (detail l) i) hh))
-    step-hi y x p q = weaker A (hi-is A ok _ _ _ _ (llMost l) 8388600 (rowBound l hh) _ _ _ _ (shape g n l (z .tall)) (bounds-fit l) r (λ b. bands-are i l b _ _) y x p q) (by l)
+    step-hi y x p q = weaker A (hi-is A ok _ _ _ _ (llMost l) (bandMost l) _ _ _ _ (shape g n l (z .tall)) (bounds-fit l) r (λ b. bands-are i l b _ _) y x p q) (by l)
       where
-        by : (l : Level) → grown 8388600 (rowBound l hh) ≤ hiMost l
+        by : (l : Level) → grown (bandMost l hl) (bandMost l hh) ≤ hiMost l
         by l1 = omega arith
         by l2 = omega arith
         by l3 = omega arith
 
-    step-is : Over A (height g n l + highs g l (height g n l)) (columns w (detail l) + columns w (detail l)) (leveled (llMost l) 8388600 (rowBound l hh)) (step A g n w l i v ll) (step whole g n w l i v ll′)
-    step-is = level-is A ok _ _ _ _ (llMost l) 8388600 (rowBound l hh) _ _ _ _ (shape g n l (z .tall)) (bounds-fit l) r (λ b. bands-are i l b _ _)
+    step-is : Over A (height g n l + highs g l (height g n l)) (columns w (detail l) + columns w (detail l)) (leveled (llMost l) (bandMost l)) (step A g n w l i v ll) (step whole g n w l i v ll′)
+    step-is = level-is A ok _ _ _ _ (llMost l) (bandMost l) _ _ _ _ (shape g n l (z .tall)) (bounds-fit l) r (λ b. bands-are i l b _ _)
 
   ll1-is : (i : Colour) → Over A (height g n l1) (w / 16) (llMost l1) (ll1 A g n w i v) (ll1 whole g n w i v)
   unfolding ll1
@@ -245,8 +225,8 @@ module _ {N : Type 0} (A : Arithmetic N) (ok : Faithful A) {g : Bool} {n w : ℕ
   unfolding outcome
   outcome-is i y x p q = weaker A (step-is i l3 _ _ (ll3-is i) y x (omega (arith, rows-after g n l3 (z .tall))) (omega (arith, z .even))) (omega arith)
 
-  pub details-are : (h c : ℕ) → Over A h c 8388600 (λ y x. A .of (v final green 0 (chosen g y) x)) (λ y. v final green 0 (chosen g y))
-  details-are h c y x p q = of-is A 8388600 _ (z .below final green 0 (chosen g y) x refl)
+  pub details-are : (h c : ℕ) → Over A h c coefMost (λ y x. A .of (v final green 0 (chosen g y) x)) (λ y. v final green 0 (chosen g y))
+  details-are h c y x p q = of-is A coefMost _ (z .below final green 0 (chosen g y) x refl)
 
   pub odds-are : Over A (planeRows g n) (w / 2) 308248432 (oddGreen A (w / 2) (outcome A g n w green v) (λ y x. A .of (v final green 0 (chosen g y) x))) (oddGreen whole (w / 2) (outcome whole g n w green v) (λ y. v final green 0 (chosen g y)))
   odds-are = odd-is A ok (planeRows g n) (w / 2) 304054131 _ _ _ _ (omega arith) (outcome-is green) (details-are _ _)

@@ -22,7 +22,7 @@ use Rattle.format.proofs.PlaceLaws.{flat-same, flat-map}
 use Rattle.format.proofs.Accepted.{Good}
 use Rattle.format.proofs.Accepted as accept
 use Rattle.format.proofs.Ranges.{Each, each-flat, LowSelectors, small-coefs}
-use Rattle.format.proofs.Bounds.{Over, Fair, ll-is, step-lo, step-hi, outcome-is, odds-are, plane-is}
+use Rattle.format.proofs.Bounds.{Over, Fair, bands-are, ll-is, step-lo, step-hi, outcome-is, odds-are, plane-is}
 use Rattle.format.proofs.Filtered as filter
 
 -- nothing is lost either: selectors of 4 at most are 11 at most
@@ -104,7 +104,10 @@ module _ (s : List ℕ) (o : Ordinary s) where
 
   -- how large each stage is
   pub stages : Bounded g n (width s) (coefs s)
+  unfolding OrdinarySelectors
   stages = record {
+    coef = λ m i c r x e. small-coefs s m i (λ t k. o .low m i t k e) c r x;
+    band = λ l i b. at-most _ _ _ _ _ (bands-are wrapping wrapping-faithful fair i l b _ _);
     ll = λ l i. at-most _ _ _ _ _ (ll-is wrapping wrapping-faithful fair i l);
     lo = λ l i. at-most _ _ _ _ _ (step-lo wrapping wrapping-faithful fair i l _ _ (ll-is wrapping wrapping-faithful fair i l));
     hi = λ l i. at-most _ _ _ _ _ (step-hi wrapping wrapping-faithful fair i l _ _ (ll-is wrapping wrapping-faithful fair i l));

@@ -10,7 +10,7 @@ use Rattle.format.specs.Packets.{packetOf, kind, blocks, selector}
 use Rattle.format.specs.Refusals.{refusal}
 use Rattle.format.specs.Coefficients.{Coefs}
 use Rattle.format.specs.Lifting.{PlaneOf, Signal, Plane, Lead, lowLeads, highLeads, join, SameOn}
-use Rattle.format.specs.Table.{height, lead, highs, Band, hl, lh, hh, chosen}
+use Rattle.format.specs.Table.{height, lead, highs, Band, hl, lh, hh, bandRows, chosen}
 use Rattle.format.specs.Synthesis.{sums, down, bands, llAt, outcome, oddGreen, bothGreens, planeOf, flat}
 use Rattle.format.specs.T800.{filter}
 
@@ -87,7 +87,19 @@ pub record Filtered (g : Bool) (n w : ℕ) (i : Colour) (v : Coefs) (l : Level) 
   pub hi : SameOn (height g n l + highs g l (height g n l)) (columns w (detail l)) (hiAt wrapping g n w i v l)
       (filteredDown (lead g l) (height g n l) (highs g l (height g n l)) (bands whole g l (height g n l) i (v (detail l) i) hl) (bands whole g l (height g n l) i (v (detail l) i) hh))
 
--- ---- the largest magnitudes: each level's ll, lo and hi; docs/BOUNDS.md has the arithmetic
+-- ---- the largest magnitudes; docs/BOUNDS.md has the arithmetic. Coefficients lie below `coefMost`
+abbrev pub coefMost : ℕ
+coefMost = 8388600
+
+-- the rows of bands, with E in hh of levels 2 and 3 alone
+abbrev pub bandMost : Level → Band → ℕ
+bandMost l hl = 8388600
+bandMost l lh = 8388600
+bandMost l1 hh = 8388600
+bandMost l2 hh = 16777202
+bandMost l3 hh = 16777202
+
+-- each level's ll, lo and hi
 abbrev pub llMost : Level → ℕ
 llMost l1 = 134184961
 llMost l2 = 178225115
@@ -109,6 +121,8 @@ AtMost h w m p = (y x : ℕ) → y < h → x < w → natAbs (p y x) ≤ m
 
 -- of document 01's synthesis
 pub record Bounded (g : Bool) (n w : ℕ) (v : Coefs) : Type 0 where
+  pub coef : (m : Group) (i : Colour) (c r x : ℕ) → present m i ≡ true → natAbs (v m i c r x) < coefMost
+  pub band : (l : Level) (i : Colour) (b : Band) → AtMost (bandRows (height g n l) (highs g l (height g n l)) b) (columns w (detail l)) (bandMost l b) (bands wrapping g l (height g n l) i (v (detail l) i) b)
   pub ll : (l : Level) (i : Colour) → AtMost (height g n l) (columns w (detail l)) (llMost l) (llAt wrapping g n w i v l)
   pub lo : (l : Level) (i : Colour) → AtMost (height g n l + highs g l (height g n l)) (columns w (detail l)) (loMost l) (loAt wrapping g n w i v l)
   pub hi : (l : Level) (i : Colour) → AtMost (height g n l + highs g l (height g n l)) (columns w (detail l)) (hiMost l) (hiAt wrapping g n w i v l)
