@@ -10,7 +10,7 @@ use Rattle.wrap32.proofs.Bias.{green-back}
 use Rattle.format.specs.Lifting.{Plane, SameOn}
 use Rattle.format.proofs.LiftingLaws.{weave-even, weave-odd, weave-same, branch}
 use Rattle.format.proofs.LevelLaws.{Fits}
-use Rattle.format.specs.Synthesis.{quarter, guess, around, oddGreen, evenGreen, bothGreens}
+use Rattle.format.specs.Synthesis.{quarter, oFrom, guess, around, oddGreen, evenGreen, bothGreens}
 use Rattle.format.specs.Recovery.{oOf, dOf, lOf}
 
 -- in any arithmetic
@@ -34,7 +34,7 @@ module _ (A : Arithmetic ℤ) (h c : ℕ) where
 
   odd-same : (l d l′ d′ : Plane) → SameOn h c l l′ → SameOn h c d d′ → SameOn h c (oddGreen A c l d) (oddGreen A c l′ d′)
   unfolding oddGreen
-  odd-same l d l′ d′ s t y x p q = λ i. A .cut32 (A .shift (A .minus64 (A .plus64 (s y x p q i) (s y x p q i)) (guess-same d d′ t y x p q i)) 2)
+  odd-same l d l′ d′ s t y x p q = λ i. oFrom A (s y x p q i) (guess-same d d′ t y x p q i)
 
   pub greens-same : (l d l′ d′ : Plane) → SameOn h c l l′ → SameOn h c d d′ → SameOn h (c + c) (bothGreens A h c l d) (bothGreens A h c l′ d′)
   unfolding bothGreens evenGreen

@@ -10,28 +10,22 @@ use lib.IntN.{ℤ, pos, negsuc, natAbs}
 use lib.Signed.{mag}
 use Rattle.wrap32.specs.Arithmetic.{wrapping, whole, number, checked}
 use Rattle.wrap32.proofs.Faithful.{wrapping-faithful, checked-faithful, number-of}
+use Rattle.lists.specs.Lists.{Each}
 use Rattle.format.specs.Sizes.{Colour, green, Level, detail, stripes, guarded}
 use Rattle.format.specs.Strip.{width, codedHeight}
+use Rattle.format.specs.Refusals.{Admitted}
 use Rattle.format.specs.Coefficients.{coefs}
 use Rattle.format.specs.Lifting.{Plane}
 use Rattle.format.specs.Table.{height, hl, lh, hh}
 use Rattle.format.specs.Synthesis.{bands, planes}
-use Rattle.format.specs.Ordinary.{OrdinarySelectors, Ordinary, filteredPlanes, Filtered, AtMost, Bounded}
+use Rattle.format.specs.Ordinary.{OrdinarySelectors, filteredPlanes, Filtered, AtMost, Bounded}
 use Rattle.format.proofs.Exact.{tall-of}
 use Rattle.format.proofs.PlaceLaws.{flat-same, flat-map}
 use Rattle.format.proofs.Accepted.{Good}
 use Rattle.format.proofs.Accepted as accept
-use Rattle.format.proofs.Ranges.{Each, each-flat, LowSelectors, small-coefs}
+use Rattle.format.proofs.Ranges.{each-flat, small-coefs}
 use Rattle.format.proofs.Bounds.{Over, Fair, bands-are, ll-is, step-lo, step-hi, outcome-is, odds-are, plane-is}
 use Rattle.format.proofs.Filtered as filter
-
--- nothing is lost either: selectors of 4 at most are 11 at most
-pub low-selectors : (s : List ℕ) → Good s → OrdinarySelectors s → LowSelectors s
-unfolding OrdinarySelectors LowSelectors
-low-selectors s ok low l i t c h k =
-    let three = ok .packets (detail l) i refl .kinds in
-    let four = low (detail l) i t c refl h (omega (arith, three)) in
-    omega arith
 
 -- ---- magnitudes
 mag-less : (z : ℤ) (m : ℕ) → natAbs z < m → mag z < m
@@ -46,7 +40,7 @@ at-most : (h w m : ℕ) (p q : Plane) → Over wrapping h w m p q → AtMost h w
 at-most h w m p q r y x u v = subst (λ (z : ℤ). natAbs z ≤ m) (sym (r y x u v .same)) (abs-less (q y x) m (r y x u v .below))
 
 -- ---- the theorems
-module _ (s : List ℕ) (o : Ordinary s) where
+module _ (s : List ℕ) (a : Admitted s) (low : OrdinarySelectors s) where
   abbrev g : Bool
   g = guarded (codedHeight s)
 
@@ -54,7 +48,7 @@ module _ (s : List ℕ) (o : Ordinary s) where
   n = stripes (codedHeight s)
 
   good : Good s
-  good = accept.accepted s (o .greenN) (o .redN) (o .blueN) (o .workN) (o .accepted) .good
+  good = accept.accepted s (a .greenN) (a .redN) (a .blueN) (a .workN) (a .accepted) .good
 
   pub fair : Fair g n (width s) (coefs s)
   unfolding OrdinarySelectors
@@ -62,7 +56,7 @@ module _ (s : List ℕ) (o : Ordinary s) where
     tall = tall-of (codedHeight s) (good .tall);
     even = good .whole;
     narrow = good .narrow;
-    below = λ m i c r x e. mag-less (coefs s m i c r x) 8388600 (small-coefs s m i (λ t k. o .low m i t k e) c r x);
+    below = λ m i c r x e. mag-less (coefs s m i c r x) 8388600 (small-coefs s m i (λ t k. low m i t k e) c r x);
   }
 
   -- the planes are those of whole numbers: nothing is cut
@@ -106,7 +100,7 @@ module _ (s : List ℕ) (o : Ordinary s) where
   pub stages : Bounded g n (width s) (coefs s)
   unfolding OrdinarySelectors
   stages = record {
-    coef = λ m i c r x e. small-coefs s m i (λ t k. o .low m i t k e) c r x;
+    coef = λ m i c r x e. small-coefs s m i (λ t k. low m i t k e) c r x;
     band = λ l i b. at-most _ _ _ _ _ (bands-are wrapping wrapping-faithful fair i l b _ _);
     ll = λ l i. at-most _ _ _ _ _ (ll-is wrapping wrapping-faithful fair i l);
     lo = λ l i. at-most _ _ _ _ _ (step-lo wrapping wrapping-faithful fair i l _ _ (ll-is wrapping wrapping-faithful fair i l));

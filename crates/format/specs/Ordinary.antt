@@ -7,7 +7,6 @@ use lib.IntN.{ℤ, natAbs}
 use Rattle.wrap32.specs.Arithmetic.{Arithmetic, wrapping, whole}
 use Rattle.format.specs.Sizes.{Colour, green, red, blue, index, Level, l1, l2, l3, Group, base, detail, final, number, present, stripes, guarded, columns, planeRows, planeColumns}
 use Rattle.format.specs.Packets.{packetOf, kind, blocks, selector}
-use Rattle.format.specs.Refusals.{refusal}
 use Rattle.format.specs.Coefficients.{Coefs}
 use Rattle.format.specs.Lifting.{PlaneOf, Signal, Plane, Lead, lowLeads, highLeads, join, SameOn}
 use Rattle.format.specs.Table.{height, lead, highs, Band, hl, lh, hh, bandRows, chosen}
@@ -19,15 +18,6 @@ unfoldable pub OrdinarySelectors : List ℕ → Type 0
 OrdinarySelectors s =
     (m : Group) (i : Colour) (t c : ℕ) → present m i ≡ true → t < blocks (packetOf s (number m) (index i)) → c < kind (packetOf s (number m) (index i))
     → selector (packetOf s (number m) (index i)) t c ≤ 4
-
--- a stream that is accepted with lent slices so long, and has such selectors
-pub record Ordinary (s : List ℕ) : Type 0 where
-  pub greenN : ℕ
-  pub redN : ℕ
-  pub blueN : ℕ
-  pub workN : ℕ
-  pub accepted : refusal s greenN redN blueN workN ≡ 0
-  pub low : OrdinarySelectors s
 
 -- ---- the three levels by T.800's filter alone, on whole numbers
 

@@ -17,7 +17,8 @@ use Rattle.format.specs.Coefficients.{coefs}
 use Rattle.format.specs.Lifting.{PlaneOf, Plane}
 use Rattle.format.specs.Table.{chosen}
 use Rattle.format.specs.Synthesis.{outcome, guess, around, oddGreen, evenGreen, bothGreens, flat, planes}
-use Rattle.format.specs.Ordinary.{Ordinary}
+use Rattle.format.specs.Refusals.{Admitted}
+use Rattle.format.specs.Ordinary.{OrdinarySelectors}
 use Rattle.format.proofs.PlaceLaws.{flat-same, flat-map}
 use Rattle.format.proofs.Bounds.{Over, weave-is, outcome-is, details-are}
 use Rattle.format.proofs.Ordinary.{fair, planes-are-whole}
@@ -104,15 +105,15 @@ module _ {N : Type 0} (A : Arithmetic N) (ok : Faithful A) where
         weave-is A c c (a + 12582901) _ _ _ _ (omega arith) (omega arith) (λ k z. evens-by y k u z) (λ k z. weaker A (odds-by y k u z) (omega arith)) x v
 
 -- of an ordinary stream: from the averages and the details in checked arithmetic, in the code's order, every number of green is there
-pub none-leaves : (s : List ℕ) (o : Ordinary s)
+pub none-leaves : (s : List ℕ) (a : Admitted s) (low : OrdinarySelectors s)
     → flat (planeRowsOf (codedHeight s)) (width s) (greensBy checked (planeRowsOf (codedHeight s)) (width s / 2) (outcome checked (guarded (codedHeight s)) (stripes (codedHeight s)) (width s) green (coefs s)) (λ y x. within (coefs s final green 0 (chosen (guarded (codedHeight s)) y) x)))
     ≡ map number (planes wrapping (width s) (codedHeight s) (coefs s) green)
 unfolding planes
-none-leaves s o =
-    let f = fair s o in
+none-leaves s a low =
+    let f = fair s a low in
     flat-same _ _ _ _
     (λ y x p q.
     let z = greens-by checked checked-faithful (planeRowsOf (codedHeight s)) (width s / 2) 304054131 _ _ _ _ (omega arith) (outcome-is checked checked-faithful f green) (details-are checked checked-faithful f _ _) y x p (omega (arith, f .even)) in
     z .same ∙ number-of _ (omega (arith, z .below)))
     ∙ flat-map number _ _ _
-    ∙ ap (map number) (sym (planes-are-whole s o green))
+    ∙ ap (map number) (sym (planes-are-whole s a low green))
