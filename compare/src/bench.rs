@@ -17,6 +17,10 @@ const ROUNDS: usize = 9;
 const SELECTORS: [[u32; 2]; 3] = [[0, 0], [0, 2], [1, 4]];
 const MEANS: [f64; 3] = [0.46, 1.42, 4.5];
 
+/// The means that give about 9, 15 and 18 bits, and selectors under which values are cut.
+const WIDE: [f64; 3] = [70.0, 6000.0, 60_000.0];
+const HIGH: [u32; 2] = [12, 15];
+
 /// What is measured: whole tiles, or their coefficients alone.
 #[derive(Debug, Clone, Copy, PartialEq, Eq)]
 pub enum Part {
@@ -180,7 +184,7 @@ impl Line {
     }
 }
 
-/// Large tiles, plain and guarded; then other widths, and small tiles.
+/// Large tiles, plain and guarded; then other widths, small tiles, and wide values.
 fn lines() -> Vec<Line> {
     let mut lines = Vec::new();
     for height in [3072, 3064] {
@@ -190,6 +194,9 @@ fn lines() -> Vec<Line> {
     }
     lines.extend([16, 64, 256, 1024, 8192].map(|width| Line::new(width, 3072, [0, 2], MEANS[1])));
     lines.extend([(16, 16), (16, 26), (64, 48)].map(|(w, h)| Line::new(w, h, [0, 2], MEANS[1])));
+    for selectors in [SELECTORS[0], HIGH] {
+        lines.extend(WIDE.map(|mean| Line::new(1024, 3072, selectors, mean)));
+    }
     lines
 }
 

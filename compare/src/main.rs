@@ -25,8 +25,9 @@ compare: the proved ARW6 tile decoder against the original in Rust
         which decoders and whole numbers part ends with status 1
   compare bench [--only tile|coefficients]
         thread CPU time of one tile, the best of 9, the original in serial order and ours
-  compare vectors records|refusals|tiles|strips [--seed S] > FILE
-        fixed cases with the original's answers, in the format that README.md describes
+  compare vectors DIR [--seed S]
+        DIR/stdin, fixed cases with the original's answers, in the format that README.md
+        describes, and DIR/stdout, what the program replay prints for them
   compare sample > FILE
         the sample frame file, a segment joint in two tiles
   compare --help
@@ -71,8 +72,8 @@ fn command(words: &[String]) -> Result<ExitCode, String> {
         }
         "bench" => run_bench(&Options::parse(rest, &["--only"])?),
         "vectors" => {
-            let (kind, rest) = rest.split_first().ok_or("vectors of which kind?")?;
-            write_vectors(kind, &Options::parse(rest, &["--seed"])?)
+            let (dir, rest) = rest.split_first().ok_or("vectors into which folder?")?;
+            write_vectors(dir, &Options::parse(rest, &["--seed"])?)
         }
         "sample" => {
             Options::parse(rest, &[])?;
@@ -145,10 +146,12 @@ fn run_bench(options: &Options) -> Result<ExitCode, String> {
     Ok(ExitCode::SUCCESS)
 }
 
-fn write_vectors(kind: &str, options: &Options) -> Result<ExitCode, String> {
-    let seed = options.number("--seed", 1)?;
-    let bytes = vectors::make(kind, seed).ok_or(format!("no vectors of kind {kind}"))?;
-    std::io::Write::write_all(&mut std::io::stdout(), &bytes).map_err(|e| e.to_string())?;
+fn write_vectors(dir: &str, options: &Options) -> Result<ExitCode, String> {
+    let (input, output) = vectors::make(options.number("--seed", 1)?);
+    for (name, bytes) in [("stdin", input), ("stdout", output.into_bytes())] {
+        let path = std::path::Path::new(dir).join(name);
+        std::fs::write(&path, bytes).map_err(|e| format!("{}: {e}", path.display()))?;
+    }
     Ok(ExitCode::SUCCESS)
 }
 

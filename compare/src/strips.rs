@@ -4,8 +4,8 @@ use crate::rng::Rng;
 use crate::size::Size;
 use crate::streams::{header, put24};
 
-const TABLE: usize = 8;
-const ENTRY: usize = 24;
+pub const TABLE: usize = 8;
+pub const ENTRY: usize = 24;
 const STREAM: usize = 512;
 
 /// A strip and the width and height of the frame.
@@ -16,7 +16,7 @@ pub struct Strip {
 }
 
 /// A stream's header with `units` units of payload, put into the strip; the strip grows for it.
-fn put_header(strip: &mut Vec<u8>, at: usize, size: Size, units: usize) {
+pub fn put_header(strip: &mut Vec<u8>, at: usize, size: Size, units: usize) {
     let mut head = header(size);
     put24(&mut head, 16, units);
     if strip.len() < at + head.len() {
@@ -25,7 +25,8 @@ fn put_header(strip: &mut Vec<u8>, at: usize, size: Size, units: usize) {
     strip[at..at + head.len()].copy_from_slice(&head);
 }
 
-fn put_words(strip: &mut [u8], at: usize, words: &[u32]) {
+/// Little-endian words from a byte on.
+pub fn put_words(strip: &mut [u8], at: usize, words: &[u32]) {
     for (i, word) in words.iter().enumerate() {
         strip[at + 4 * i..at + 4 * i + 4].copy_from_slice(&word.to_le_bytes());
     }

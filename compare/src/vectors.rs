@@ -1,5 +1,5 @@
-//! The command `vectors`: fixed cases with the original's answers, in the format that README.md
-//! describes.
+//! The command `vectors`: fixed cases with the original's answers, for the program `replay`, in the
+//! format that README.md describes.
 
 use crate::oracle::{self, Planes};
 use crate::packets::{packet, Room};
@@ -9,22 +9,40 @@ use crate::size::{Shape, Size};
 use crate::streams::{assemble, draw_parts, push_directory_into_packet, Stream};
 use crate::strips::{draw_fallback_strip, draw_strip, draw_table_strip, edge_strips, Strip};
 
+mod listings;
 mod ordinary;
 mod refusals;
 #[cfg(test)]
 mod tests;
 
-/// Cases one after the other, led by their number.
-#[derive(Default)]
+/// Cases of a kind one after the other.
 struct Vectors {
+    kind: usize,
     cases: u32,
     bytes: Vec<u8>,
 }
 
+/// The kinds and their writers; the number of the first is 1.
+const KINDS: [(&str, fn(&mut Vectors, &mut Rng)); 5] = [
+    ("strips", strips),
+    ("refusals", refusals::refusals),
+    ("records", records),
+    ("tiles", tiles),
+    ("listings", listings::listings),
+];
+
 impl Vectors {
-    /// Starts a case with its fields of fixed number.
+    /// The cases of the kind with a number.
+    fn of_kind(kind: usize, seed: u64) -> Vectors {
+        let mut out = Vectors { kind, cases: 0, bytes: Vec::new() };
+        KINDS[kind - 1].1(&mut out, &mut Rng::new(seed));
+        out
+    }
+
+    /// Starts a case with its kind and its fields of fixed number.
     fn case(&mut self, fields: &[usize]) {
         self.cases += 1;
+        self.words(&[self.kind]);
         self.words(fields);
     }
 
@@ -46,25 +64,17 @@ impl Vectors {
         self.case(&[stream.len(), 0, size.width, size.height(), size.rows(), planes.stopped]);
         self.bytes(stream);
     }
-
-    fn finish(self) -> Vec<u8> {
-        let mut all = self.cases.to_le_bytes().to_vec();
-        all.extend(self.bytes);
-        all
-    }
 }
 
-/// The vectors of a kind, if there is such a kind.
-pub fn make(kind: &str, seed: u64) -> Option<Vec<u8>> {
-    let mut rng = Rng::new(seed);
-    let vectors = match kind {
-        "records" => records(&mut rng),
-        "refusals" => refusals::refusals(&mut rng),
-        "tiles" => tiles(&mut rng),
-        "strips" => strips(&mut rng),
-        _ => return None,
-    };
-    Some(vectors.finish())
+/// All cases, led by their number, and what `replay` prints where each comes out as it should.
+pub fn make(seed: u64) -> (Vec<u8>, String) {
+    let kinds: Vec<Vectors> = (1..=KINDS.len()).map(|kind| Vectors::of_kind(kind, seed)).collect();
+    let cases: u32 = kinds.iter().map(|k| k.cases).sum();
+    let mut bytes = cases.to_le_bytes().to_vec();
+    kinds.iter().for_each(|k| bytes.extend(&k.bytes));
+    let line = |name: &str, cases: u32| format!("{name}: {cases} as they should be, 0 not\n");
+    let text: String = kinds.iter().zip(KINDS).map(|(k, (name, _))| line(name, k.cases)).collect();
+    (bytes, text + &line("of no kind", 0))
 }
 
 fn size(width: usize, height: usize) -> Size {
@@ -73,20 +83,18 @@ fn size(width: usize, height: usize) -> Size {
 
 // Strips.
 
-fn strips(rng: &mut Rng) -> Vectors {
-    let mut out = Vectors::default();
-    edge_strips().iter().for_each(|s| put_strip(&mut out, s));
+fn strips(out: &mut Vectors, rng: &mut Rng) {
+    edge_strips().iter().for_each(|s| put_strip(out, s));
     for count in [1, 2, 3, 4, 8, 15, 16, 17] {
-        put_strip(&mut out, &draw_table_strip(rng, count, false));
-        put_strip(&mut out, &draw_table_strip(rng, count, true));
-        put_strip(&mut out, &draw_fallback_strip(rng, count));
+        put_strip(out, &draw_table_strip(rng, count, false));
+        put_strip(out, &draw_table_strip(rng, count, true));
+        put_strip(out, &draw_fallback_strip(rng, count));
     }
     for _ in 0..40 {
         let mut strip = draw_strip(rng);
         strip.frame = (strip.frame.0.min(65_536), strip.frame.1.min(65_536));
-        put_strip(&mut out, &strip);
+        put_strip(out, &strip);
     }
-    out
 }
 
 fn put_strip(out: &mut Vectors, strip: &Strip) {
@@ -98,17 +106,15 @@ fn put_strip(out: &mut Vectors, strip: &Strip) {
 
 // Records.
 
-fn records(rng: &mut Rng) -> Vectors {
+fn records(out: &mut Vectors, rng: &mut Rng) {
     let styles = [Style::Coded, Style::Empty, Style::Noise, Style::Wide, Style::Cut, Style::Same];
-    let mut out = Vectors::default();
     for group in [0, 1, 2, 3, 4, 0, 1, 2, 3, 4] {
         for style in styles {
-            put_records(&mut out, rng, group, style, false);
+            put_records(out, rng, group, style, false);
         }
-        put_records(&mut out, rng, group, Style::Coded, true);
-        put_records(&mut out, rng, group, Style::Cut, true);
+        put_records(out, rng, group, Style::Coded, true);
+        put_records(out, rng, group, Style::Cut, true);
     }
-    out
 }
 
 /// A packet of records, most of them of the style, with one record fewer than expected if so
@@ -141,7 +147,7 @@ fn put_packet(out: &mut Vectors, packet: &[u8], shape: Shape, records: usize) {
 
 // Tiles.
 
-fn tiles(rng: &mut Rng) -> Vectors {
+fn tiles(out: &mut Vectors, rng: &mut Rng) {
     let sizes = [
         (16, 14),
         (16, 16),
@@ -155,17 +161,15 @@ fn tiles(rng: &mut Rng) -> Vectors {
         (64, 16),
         (64, 18),
     ];
-    let mut out = Vectors::default();
     for (width, height) in sizes {
         for (mean, selector, odd) in [(0.5, 0, 0), (30.0, 4, 3), (3000.0, 15, 4)] {
             let recipe = Recipe { odd, fewer: 3, loose: true, ..Recipe::ordinary(mean, [0, selector]) };
             let stream = assemble(&draw_parts(rng, size(width, height), &recipe));
-            put_tile(&mut out, &stream.bytes);
+            put_tile(out, &stream.bytes);
         }
     }
-    put_tile(&mut out, &directory_in_packet(rng).bytes);
-    ordinary::put_ordinary(&mut out, rng);
-    out
+    put_tile(out, &directory_in_packet(rng).bytes);
+    ordinary::put_ordinary(out, rng);
 }
 
 /// A stream whose fifth directory block is the first packet's header, with bytes after its end.

@@ -8,16 +8,14 @@ use crate::rng::Rng;
 use crate::size::Size;
 use crate::streams::Stream;
 
-pub fn refusals(rng: &mut Rng) -> Vectors {
-    let mut out = Vectors::default();
+pub fn refusals(out: &mut Vectors, rng: &mut Rng) {
     let mut trials = single_faults();
     trials.extend(ordered_faults(rng).iter().map(|(a, b)| both(a, b)));
     for (i, trial) in trials.iter().enumerate() {
         if !trials[..i].contains(trial) {
-            put_refusal(&mut out, trial);
+            put_refusal(out, trial);
         }
     }
-    out
 }
 
 fn put_refusal(out: &mut Vectors, trial: &Trial) {

@@ -25,17 +25,31 @@ impl<'a> Reader<'a> {
     }
 }
 
-/// Reads every case of a kind with `read`, which must end at the end of the file.
-fn read_all(kind: &str, limit: usize, mut read: impl FnMut(&mut Reader)) {
+/// Reads every case of a kind with `read`, which must end at the end of the last.
+fn read_all(name: &str, limit: usize, mut read: impl FnMut(&mut Reader)) {
+    let kind = 1 + KINDS.iter().position(|k| k.0 == name).unwrap();
     for seed in 1..=5 {
-        let bytes = make(kind, seed).unwrap();
-        assert!(bytes.len() < limit, "{kind} {seed}: {} bytes", bytes.len());
-        assert_eq!(bytes, make(kind, seed).unwrap());
+        let Vectors { cases, bytes, .. } = Vectors::of_kind(kind, seed);
+        assert!(bytes.len() < limit, "{name} {seed}: {} bytes", bytes.len());
+        assert_eq!(bytes, Vectors::of_kind(kind, seed).bytes);
         let mut reader = Reader(&bytes);
-        let cases = reader.word();
-        (0..cases).for_each(|_| read(&mut reader));
+        for _ in 0..cases {
+            assert_eq!(reader.word(), kind);
+            read(&mut reader);
+        }
         assert!(reader.0.is_empty());
     }
+}
+
+/// The files of `replay` are those of seed 1, and `tiles` has document 01's example.
+#[test]
+fn files_are_these() {
+    let (input, output) = make(1);
+    assert!(input == include_bytes!("../../../crates/replay/stdin"));
+    assert_eq!(output, include_str!("../../../crates/replay/stdout"));
+    let example = listings::framed(16, 16, &edge_strips()[0].bytes);
+    assert_eq!(example, include_bytes!("../../../crates/tiles/stdin"));
+    assert_eq!(listings::response(&example), include_str!("../../../crates/tiles/stdout"));
 }
 
 #[test]
@@ -93,4 +107,25 @@ fn tiles_read_back() {
             }
         }
     });
+}
+
+#[test]
+fn listings_read_back() {
+    let mut texts = Vec::new();
+    read_all("listings", 200_000, |r| {
+        let [length, printed] = r.words();
+        let input = r.take(length);
+        let text = String::from_utf8(r.take(printed).to_vec()).unwrap();
+        assert_eq!(listings::response(input), text);
+        texts.push((length, text));
+    });
+    let expected = [
+        (648, "tiles 0\n"),
+        (7, "too short\n"),
+        (65_537, "too long\n"),
+        (2056, "tiles 3\n512 192 0 0 32 16\n1024 160 48 0 16 32\n1536 512 32 32 32 16\n"),
+        (65_536, "tiles 1\n512 4224 0 0 64 32\n"),
+        (4104, "tiles 1\n736 144 16 8 16 32\n"),
+    ];
+    assert_eq!(texts[..6], expected.map(|(length, text)| (length, text.to_string())));
 }

@@ -1,28 +1,15 @@
 // The coefficient bit reader.
 ghost use mathlib.Core.Path.{_≡_};
-ghost use Prim.Native.Nat.{_+_, _-_, _/_, _^_, _<_, _≤_, min};
+ghost use Prim.Native.Nat.{_+_, _/_, _^_, _<_, _≤_};
 ghost use lib.ListN.{length};
 ghost use Rattle.format.specs.Bits.{bitsAt, zerosAt};
 ghost use Rattle.format.specs.Reader.{startOf, skipped, spent, readOf, unaryOf, findOf, updateSecond, updateOf, runOf, bitLength};
 ghost use Rattle.format.specs.Coefficients.{fourOf};
-ghost use Rattle.bits.specs.View.{asReader, asTaken, asFour, Ready, Sound, SoundFour, Filled, Opens};
+ghost use Rattle.bits.specs.View.{asReader, asTaken, asFour, Ready, ReadyBelow, ReadyBelowFour, changeOf};
+use words::least;
+use words::less;
 use words::top;
 use words::window;
-
-// The lesser of two numbers.
-pub fn least(a: u64, b: u64) -> u64
-    ensures { λ r. ⌜ r ≡ min a b ⌝ }
-    ensures { λ r. ⌜ (r ≤ a) × (r ≤ b) ⌝ }
-{
-    if a <= b { a } else { b }
-}
-
-// The difference, 0 where it would be below 0.
-pub fn less(a: u64, b: u64) -> u64
-    ensures { λ r. ⌜ r ≡ a - b ⌝ }
-{
-    if b < a { a - b } else { 0 }
-}
 
 // The bits that x has.
 pub fn bit_length(x: u64) -> u64
@@ -40,7 +27,7 @@ fn power(n: u64) -> u64
 }
 
 // The zeros before the first one among `limit` bits from a place on, by words of 57 bits, of which the first is in hand.
-fn zeros(packet: &[u8], place: u64, cache: u64, limit: u64) -> u64
+fn zeros_ahead(packet: &[u8], place: u64, cache: u64, limit: u64) -> u64
     requires { ⌜ (8 ≤ length (now packet)) × (place + limit < 2 ^ 40) ⌝ }
     requires { ⌜ cache / 2 ^ 7 ≡ bitsAt (now packet) place 57 ⌝ }
     ensures { λ r. ⌜ (r ≡ zerosAt (now (packet .entry)) place limit) × (r ≤ limit) ⌝ }
@@ -84,83 +71,74 @@ pub struct Four {
     pub reader: BitReader,
 }
 
-// The width with which a row starts, and the bits that it takes.
-pub struct Opening {
+// A width, and the bits that its update took.
+pub struct Change {
     pub width: u64,
     pub used: u64,
 }
 
-// The width update of 0 out of a word.
-fn first_width(word: u64) -> Opening
-    ensures { λ r. ⌜ Opens word r ⌝ }
+// A width update out of a word: 0 keeps the width, 10 adds a unary, 11 takes off the place of the next one.
+pub fn changed(word: u64, width: u64) -> Change
+    requires { ⌜ width < 2 ^ 32 ⌝ }
+    ensures { λ r. ⌜ (r ≡ changeOf word width) × (r .used ≤ 67) ⌝ }
 {
     if word < 0x8000_0000_0000_0000 {
-        return Opening { width: 0, used: 1 };
-    }
-    if 0xC000_0000_0000_0000 <= word {
-        return Opening { width: 0, used: 2 };
+        return Change { width, used: 1 };
     }
     let z = u64::leading_zeros(word << 2) as u64;
-    Opening {
-        width: z + 1,
-        used: z + 3,
+    if word < 0xC000_0000_0000_0000 {
+        return Change {
+            width: width + z + 1,
+            used: z + 3,
+        };
+    }
+    Change {
+        width: less(width, z + 1),
+        used: least(z + 1, less(width, 1)) + 2,
     }
 }
 
 impl BitReader {
-    // A reader at a payload, with the allowance of its byte length.
-    pub fn new(offset: u64, bytes: u64) -> BitReader
-        requires { ⌜ (offset < 2 ^ 36) × (bytes < 2 ^ 36) ⌝ }
-        ensures { λ r. ⌜ asReader r ≡ startOf offset bytes ⌝ }
-        ensures { λ r. ⌜ r .place + r .remaining < 2 ^ 40 ⌝ }
+    // A reader at a place, with a word of the bits from there.
+    fn at(packet: &[u8], place: u64, remaining: u64, status: u64) -> BitReader
+        requires { ⌜ (8 ≤ length (now packet)) × (place + remaining < 2 ^ 40) ⌝ }
+        ensures { λ r. ⌜ asReader r ≡ record { place = place; remaining = remaining; status = status } ⌝ }
+        ensures { λ r. ⌜ Ready (now (packet .entry)) r ⌝ }
     {
         BitReader {
-            place: offset * 8,
-            cache: 0,
-            remaining: (bytes + 15) / 16 * 128,
-            status: 0,
+            place,
+            cache: window(packet, place),
+            remaining,
+            status,
         }
     }
 
-    // Fills the cache with the bits from the place on.
-    fn refill(self, packet: &[u8]) -> BitReader
-        requires { ⌜ Ready (now packet) self ⌝ }
-        ensures { λ r. ⌜ Filled (now (packet .entry)) self r ⌝ }
+    // A reader at a payload, with the allowance of its byte length.
+    pub fn new(packet: &[u8], offset: u64, bytes: u64) -> BitReader
+        requires { ⌜ (8 ≤ length (now packet)) × (offset < 2 ^ 36) × (bytes < 2 ^ 36) ⌝ }
+        ensures { λ r. ⌜ asReader r ≡ startOf offset bytes ⌝ }
+        ensures { λ r. ⌜ Ready (now (packet .entry)) r ⌝ }
     {
-        BitReader {
-            place: self.place,
-            cache: window(packet, self.place),
-            remaining: self.remaining,
-            status: self.status,
-        }
+        BitReader::at(packet, offset * 8, (bytes + 15) / 16 * 128, 0)
     }
 
     // Past n bits.
-    pub fn skip(self, n: u64) -> BitReader
-        requires { ⌜ (n ≤ self .remaining) × (self .place + n < 2 ^ 64) ⌝ }
+    pub fn skip(self, packet: &[u8], n: u64) -> BitReader
+        requires { ⌜ Ready (now packet) self ⌝ }
+        requires { ⌜ n ≤ self .remaining ⌝ }
         ensures { λ r. ⌜ asReader r ≡ skipped (asReader self) n ⌝ }
-        ensures { λ r. ⌜ r .place + r .remaining ≡ self .place + self .remaining ⌝ }
+        ensures { λ r. ⌜ Ready (now (packet .entry)) r ⌝ }
     {
-        BitReader {
-            place: self.place + n,
-            cache: 0,
-            remaining: self.remaining - n,
-            status: self.status,
-        }
+        BitReader::at(packet, self.place + n, self.remaining - n, self.status)
     }
 
     // At the end of the allowance.
-    fn spend(self) -> BitReader
-        requires { ⌜ self .place + self .remaining < 2 ^ 64 ⌝ }
+    fn spend(self, packet: &[u8]) -> BitReader
+        requires { ⌜ Ready (now packet) self ⌝ }
         ensures { λ r. ⌜ asReader r ≡ spent (asReader self) ⌝ }
-        ensures { λ r. ⌜ r .place + r .remaining ≡ self .place + self .remaining ⌝ }
+        ensures { λ r. ⌜ Ready (now (packet .entry)) r ⌝ }
     {
-        BitReader {
-            place: self.place + self.remaining,
-            cache: 0,
-            remaining: 0,
-            status: 2,
-        }
+        BitReader::at(packet, self.place + self.remaining, 0, 2)
     }
 
     // n bits.
@@ -168,19 +146,18 @@ impl BitReader {
         requires { ⌜ Ready (now packet) self ⌝ }
         requires { ⌜ n ≤ 57 ⌝ }
         ensures { λ r. ⌜ asTaken r ≡ readOf (now (packet .entry)) (asReader self) n ⌝ }
-        ensures { λ r. ⌜ Sound (now (packet .entry)) r (2 ^ n) ⌝ }
+        ensures { λ r. ⌜ ReadyBelow (now (packet .entry)) r (2 ^ n) ⌝ }
     {
-        let r = self.refill(packet);
         let left = self.remaining;
         if n <= left {
             return Taken {
-                value: top(r.cache, n),
-                reader: self.skip(n),
+                value: top(self.cache, n),
+                reader: self.skip(packet, n),
             };
         }
         Taken {
-            value: top(r.cache, left) << (n - left),
-            reader: self.spend(),
+            value: top(self.cache, left) << (n - left),
+            reader: self.spend(packet),
         }
     }
 
@@ -190,8 +167,7 @@ impl BitReader {
         requires { ⌜ n ≤ 57 ⌝ }
         ensures { λ r. ⌜ r ≡ bitsAt (now (packet .entry)) (self .place) n ⌝ }
     {
-        let r = self.refill(packet);
-        top(r.cache, n)
+        top(self.cache, n)
     }
 
     // n bits, four times. One word holds them all where they are short.
@@ -199,18 +175,17 @@ impl BitReader {
         requires { ⌜ Ready (now packet) self ⌝ }
         requires { ⌜ n ≤ 57 ⌝ }
         ensures { λ r. ⌜ asFour r ≡ fourOf (now (packet .entry)) (asReader self) n ⌝ }
-        ensures { λ r. ⌜ SoundFour (now (packet .entry)) r (2 ^ n) ⌝ }
+        ensures { λ r. ⌜ ReadyBelowFour (now (packet .entry)) r (2 ^ n) ⌝ }
     {
         if n < 15 {
             if 4 * n <= self.remaining {
-                let r = self.refill(packet);
-                let w = r.cache;
+                let w = self.cache;
                 return Four {
                     a: top(w, n),
                     b: top(w << n, n),
                     c: top(w << (2 * n), n),
                     d: top(w << (3 * n), n),
-                    reader: self.skip(4 * n),
+                    reader: self.skip(packet, 4 * n),
                 };
             }
         }
@@ -235,20 +210,19 @@ impl BitReader {
     pub fn unary(self, packet: &[u8]) -> Taken
         requires { ⌜ Ready (now packet) self ⌝ }
         ensures { λ r. ⌜ asTaken r ≡ unaryOf (now (packet .entry)) (asReader self) ⌝ }
-        ensures { λ r. ⌜ Sound (now (packet .entry)) r (self .remaining + 2) ⌝ }
+        ensures { λ r. ⌜ ReadyBelow (now (packet .entry)) r (self .remaining + 2) ⌝ }
     {
-        let r = self.refill(packet);
         let left = self.remaining;
-        let z = zeros(packet, self.place, r.cache, left);
+        let z = zeros_ahead(packet, self.place, self.cache, left);
         if z < left {
             return Taken {
                 value: z + 1,
-                reader: self.skip(z + 1),
+                reader: self.skip(packet, z + 1),
             };
         }
         Taken {
             value: z + 1,
-            reader: self.spend(),
+            reader: self.spend(packet),
         }
     }
 
@@ -256,32 +230,51 @@ impl BitReader {
     fn find(self, packet: &[u8], k: u64) -> Taken
         requires { ⌜ Ready (now packet) self ⌝ }
         ensures { λ r. ⌜ asTaken r ≡ findOf (now (packet .entry)) (asReader self) k ⌝ }
-        ensures { λ r. ⌜ Sound (now (packet .entry)) r (k + 1) ⌝ }
+        ensures { λ r. ⌜ ReadyBelow (now (packet .entry)) r (k + 1) ⌝ }
     {
-        let r = self.refill(packet);
         let left = self.remaining;
         let limit = least(k, left);
-        let z = zeros(packet, self.place, r.cache, limit);
+        let z = zeros_ahead(packet, self.place, self.cache, limit);
         if z < limit {
             return Taken {
                 value: z,
-                reader: self.skip(z + 1),
+                reader: self.skip(packet, z + 1),
             };
         }
         if k <= left {
             return Taken {
                 value: k,
-                reader: self.skip(k),
+                reader: self.skip(packet, k),
             };
         }
         Taken {
             value: k,
-            reader: self.spend(),
+            reader: self.spend(packet),
         }
     }
 
-    // The width after a width update: 0 keeps it, 10 adds a unary, 11 takes off the place of the next one.
+    // The width after a width update, out of the cache where that holds it whole.
     pub fn width_update(self, packet: &[u8], width: u64) -> Taken
+        requires { ⌜ Ready (now packet) self ⌝ }
+        requires { ⌜ width < 2 ^ 32 ⌝ }
+        ensures { λ r. ⌜ asTaken r ≡ updateOf (now (packet .entry)) (asReader self) width ⌝ }
+        ensures { λ r. ⌜ Ready (now (packet .entry)) (r .reader) ⌝ }
+    {
+        if self.status != 0 {
+            return self.width_first(packet, width);
+        }
+        let u = changed(self.cache, width);
+        if least(self.remaining, 57) < u.used {
+            return self.width_first(packet, width);
+        }
+        Taken {
+            value: u.width,
+            reader: self.skip(packet, u.used),
+        }
+    }
+
+    // The same bit by bit: 0 keeps it, 10 adds a unary, 11 takes off the place of the next one.
+    fn width_first(self, packet: &[u8], width: u64) -> Taken
         requires { ⌜ Ready (now packet) self ⌝ }
         requires { ⌜ width < 2 ^ 32 ⌝ }
         ensures { λ r. ⌜ asTaken r ≡ updateOf (now (packet .entry)) (asReader self) width ⌝ }
@@ -335,68 +328,12 @@ impl BitReader {
         }
     }
 
-    // The width update of 0, with which a row starts.
-    pub fn width_start(self, packet: &[u8]) -> Taken
-        requires { ⌜ Ready (now packet) self ⌝ }
-        ensures { λ r. ⌜ asTaken r ≡ updateOf (now (packet .entry)) (asReader self) 0 ⌝ }
-        ensures { λ r. ⌜ Ready (now (packet .entry)) (r .reader) ⌝ }
-    {
-        if self.status != 0 {
-            return self.width_apart(packet);
-        }
-        let o = first_width(window(packet, self.place));
-        if least(self.remaining, 57) < o.used {
-            return self.width_apart(packet);
-        }
-        Taken {
-            value: o.width,
-            reader: self.skip(o.used),
-        }
-    }
-
-    // The same, bit by bit.
-    fn width_apart(self, packet: &[u8]) -> Taken
-        requires { ⌜ Ready (now packet) self ⌝ }
-        ensures { λ r. ⌜ asTaken r ≡ updateOf (now (packet .entry)) (asReader self) 0 ⌝ }
-        ensures { λ r. ⌜ Ready (now (packet .entry)) (r .reader) ⌝ }
-    {
-        let a = self.read(packet, 1);
-        let first = a.reader;
-        if a.value == 0 {
-            return Taken {
-                value: 0,
-                reader: first,
-            };
-        }
-        if first.status != 0 {
-            return Taken {
-                value: 0,
-                reader: first,
-            };
-        }
-        let b = first.read(packet, 1);
-        let second = b.reader;
-        if second.status != 0 {
-            return Taken {
-                value: 0,
-                reader: second,
-            };
-        }
-        if b.value == 0 {
-            return second.unary(packet);
-        }
-        Taken {
-            value: 0,
-            reader: second.skip(0),
-        }
-    }
-
     // The length of a run of zero groups, of which `groups` are left.
     pub fn zero_run(self, packet: &[u8], groups: u64) -> Taken
         requires { ⌜ Ready (now packet) self ⌝ }
         requires { ⌜ groups < 2 ^ 32 ⌝ }
         ensures { λ r. ⌜ asTaken r ≡ runOf (now (packet .entry)) (asReader self) groups ⌝ }
-        ensures { λ r. ⌜ Sound (now (packet .entry)) r (groups + 1) ⌝ }
+        ensures { λ r. ⌜ ReadyBelow (now (packet .entry)) r (groups + 1) ⌝ }
         ensures { λ r. ⌜ (0 < groups → 0 < r .value) ⌝ }
     {
         if groups <= 1 {

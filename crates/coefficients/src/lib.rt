@@ -5,8 +5,9 @@ ghost use Prim.Native.Nat.{_+_};
 ghost use lib.ListN.{length};
 ghost use Rattle.format.specs.Coefficients.{packetValues, packetStopped};
 ghost use Rattle.coefficients.specs.Together.{together};
+use fields::blocks;
+use fields::kind;
 use records::decode_packet;
-use words::field;
 
 // Columns and records are below this.
 const LIMIT: usize = 65536;
@@ -27,10 +28,10 @@ fn fits(packet: &[u8], m: usize, cols: usize, n: usize, size: usize) -> bool
     if LIMIT <= n {
         return false;
     }
-    if n < field(packet, 56, 16) {
+    if n < blocks(packet) {
         return false;
     }
-    size == n * (field(packet, 48, 2) * m * cols)
+    size == n * (kind(packet) * m * cols)
 }
 
 // The coefficients of a packet of n records, those that are missing with them, into a band of their size: how many records stopped,

@@ -14,14 +14,14 @@ use Rattle.wrap32.specs.Cut.{cut}
 use Rattle.wrap32.specs.Arithmetic.{Arithmetic, whole}
 use Rattle.wrap32.proofs.Laws.{cut-fits}
 use Rattle.wrap32.proofs.Faithful.{Faithful, Is, weaker, of-is, cond-is, plus-is, minus-is, plus64-is, minus64-is, half-is, quarter-is, cut-is, edge-is}
-use Rattle.format.specs.Sizes.{Colour, green, red, blue, Level, l1, l2, l3, Group, base, detail, final, present, columns, planeRows, planeColumns}
+use Rattle.format.specs.Sizes.{Colour, green, red, blue, Level, l1, l2, l3, Group, base, detail, final, present, columns, planeRows, planeColumns, Tall}
 use Rattle.format.specs.Coefficients.{Coefs}
 use Rattle.format.specs.Lifting.{SignalOf, PlaneOf, Signal, Plane, weave, Lead, lowLeads, highLeads, join, taken, added, lowOut, highOut, lift, Shape}
 use Rattle.format.specs.Table.{start, height, lead, highs, Source, S, E, Band, hl, lh, hh, source, bandRows, mode, chosen}
 use Rattle.format.specs.Synthesis.{sumOf, down, level, value, bands, step, ll1, ll2, ll3, llAt, outcome, guess, around, oddGreen, evenGreen, bothGreens, planeOf}
 use Rattle.format.specs.Ordinary.{coefMost, bandMost, llMost, loMost, hiMost}
 use Rattle.format.proofs.TableLaws.{Straight, straight, straight-1, straight-hl, straight-lh}
-use Rattle.format.proofs.Exact.{Tall, shape, rows-after}
+use Rattle.format.proofs.Exact.{shape, rows-after}
 
 module _ {N : Type 0} (A : Arithmetic N) where
   -- n numbers, and h rows of w, are those whole numbers, which lie below m

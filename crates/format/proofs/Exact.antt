@@ -1,23 +1,24 @@
 -- Recovery is exact: fed w, H and the three planes, it gives every coefficient of the rows that go in. Assumes nothing.
 use mathlib.Core.Path.{_≡_, refl, sym, ap, _∙_}
-use mathlib.Core.Bool.{Bool, true, false}
+use mathlib.Core.Bool.{Bool, true, false, false≢true}
 use mathlib.Core.Logic.{inl, inr, _↔_}
 use Prim.Native.Nat.{ℕ, _+_, _*_, _/_, _%_, _^_, _≤_, _<_}
 use native.Mathlib.Omega.{arith}
 use lib.Dec.{T}
 use borrow.Author.Tests.{eqb-false, not-true}
-use lib.IntN.{ℤ, pos, natAbs}
+use lib.IntN.{pos, natAbs}
 use mir.Syntax.{w16}
 use Rattle.wrap32.specs.Cut.{cut}
 use Rattle.wrap32.specs.Arithmetic.{wrapping}
 use Rattle.format.specs.Lifting.{Plane, Shape, SameOn}
-use Rattle.format.specs.Sizes.{Colour, green, red, blue, Level, l1, l2, l3, Group, base, detail, final, stripes, guarded, multiplier, columns, planeRows, planeColumns}
+use Rattle.format.specs.Sizes.{Colour, green, red, blue, Level, l1, l2, l3, Group, base, detail, final, stripes, guarded, Tall, multiplier, columns, planeRows, planeColumns}
 use Rattle.format.specs.Coefficients.{Coefs}
-use Rattle.format.specs.Table.{start, height, lead, highs, Source, S, E, Band, hl, lh, hh, source, bandRows, mode, chosen, fromComponent, fromRow, GoesIn, summed, lifted, picked}
+use Rattle.format.specs.Table.{start, height, lead, highs, Source, S, E, Band, hl, lh, hh, source, bandRows, isEdge, mode, chosen, fromComponent, fromRow, GoesIn, summed, lifted, picked, asE}
 use Rattle.format.specs.Synthesis.{value, bands, step, ll1, ll2, ll3, llAt, outcome, planeOf, planes}
-use Rattle.format.specs.Recovery.{readPlane, back, differences, unstep, given, unband, summedBack, liftedBack, outOf, pickedBack, recover}
+use Rattle.format.specs.Recovery.{readPlane, back, differences, unstep, given, unband, summedBack, liftedBack, outOf, pickedBack, recover, counted}
 use Rattle.format.proofs.LevelLaws.{Fits, level-fits, level-same, ll-back, band-back}
 use Rattle.format.proofs.GreenLaws.{greens-same, d-back, l-back}
+use Rattle.format.proofs.Edges.{one-way}
 use Rattle.format.proofs.PlaceLaws.{value-fits, value-back, seek-rest, seek-found, sums-fits, sums-back, sums-same, read-flat, flat-same}
 
 -- ---- the statement's words
@@ -27,16 +28,14 @@ pub record Coded (w H : ℕ) : Type 0 where
   pub whole : w % 16 ≡ 0
   pub tall : 16 ≤ H
 
--- coefficients are 32-bit numbers, and those of groups 1 to 3 below 2 ^ 30 in magnitude
-pub record Ranged (v : Coefs) : Type 0 where
-  pub fits : (g : Group) (i : Colour) (c : ℕ) → Fits (v g i c)
-  pub small : (l : Level) (i : Colour) (c r x : ℕ) → natAbs (v (detail l) i c r x) < 2 ^ 30
+-- coefficients are 32-bit numbers
+abbrev pub AllFit : Coefs → Type 0
+AllFit v = (g : Group) (i : Colour) (c : ℕ) → Fits (v g i c)
 
--- a coefficient as it counts: of band 0 the low 16 bits
-abbrev pub counted : Group → ℤ → ℤ
-counted base z = cut w16 z
-counted (detail l) z = z
-counted final z = z
+-- and those of groups 1 to 3 are below 2 ^ 30 in magnitude
+pub record Ranged (v : Coefs) : Type 0 where
+  pub fits : AllFit v
+  pub small : (l : Level) (i : Colour) (c r x : ℕ) → natAbs (v (detail l) i c r x) < 2 ^ 30
 
 -- the groups that go through the three levels
 abbrev pub levelled : Group → Bool
@@ -45,10 +44,6 @@ levelled (detail l) = true
 levelled final = false
 
 -- ---- sizes
-abbrev pub Tall : Bool → ℕ → Type 0
-Tall false n = 1 ≤ n
-Tall true n = 2 ≤ n
-
 pub tall-of : (H : ℕ) → 16 ≤ H → Tall (guarded H) (stripes H)
 tall-of H h = by (guarded H) refl
   where
@@ -90,8 +85,8 @@ planes-least false n t = omega arith
 planes-least true n t = omega arith
 
 module _ (g : Bool) (n w : ℕ) (t : Tall g n) (k : w % 16 ≡ 0) (i : Colour) where
-  bands-fit : (v : Coefs) → Ranged v → (l : Level) (b : Band) → Fits (bands wrapping g l (height g n l) i (v (detail l) i) b)
-  bands-fit v f l b y x = value-fits (mode l i) (source g l (height g n l) b y) (v (detail l) i) (λ c. f .fits (detail l) i c) x
+  bands-fit : (v : Coefs) → AllFit v → (l : Level) (b : Band) → Fits (bands wrapping g l (height g n l) i (v (detail l) i) b)
+  bands-fit v f l b y x = value-fits (mode l i) (source g l (height g n l) b y) (v (detail l) i) (λ c. f (detail l) i c) x
 
   llAt-fits : (v : Coefs) (l : Level) → Fits (llAt wrapping g n w i v l)
   unfolding ll1 ll2 ll3
@@ -116,7 +111,8 @@ module _ (g : Bool) (n w : ℕ) (t : Tall g n) (k : w % 16 ≡ 0) (i : Colour) w
         same odd (S c r) z = z
         same odd (E c r) z = rw z
 
-    step-like : (l : Level) → SameOn (height g n l) (columns w (detail l)) (llAt wrapping g n w i u l) (llAt wrapping g n w i v l) → SameOn (height g n l + highs g l (height g n l)) (columns w (detail l) + columns w (detail l)) (step wrapping g n w l i u (llAt wrapping g n w i u l)) (step wrapping g n w l i v (llAt wrapping g n w i v l))
+    step-like : (l : Level) → SameOn (height g n l) (columns w (detail l)) (llAt wrapping g n w i u l) (llAt wrapping g n w i v l)
+        → SameOn (height g n l + highs g l (height g n l)) (columns w (detail l) + columns w (detail l)) (step wrapping g n w l i u (llAt wrapping g n w i u l)) (step wrapping g n w l i v (llAt wrapping g n w i v l))
     step-like l s = level-same _ _ _ _ (shape g n l t) _ _ wrapping _ _ s (bands-like l)
 
     ll1-like : SameOn (height g n l1) (w / 16) (llAt wrapping g n w i u l1) (llAt wrapping g n w i v l1)
@@ -136,7 +132,7 @@ module _ (g : Bool) (n w : ℕ) (t : Tall g n) (k : w % 16 ≡ 0) (i : Colour) w
     outcome-like y x p q = step-like l3 ll3-like y x (omega (arith, rows-after g n l3 t)) (omega arith)
 
   -- ---- backward: from what has the outcome on its rows
-  module _ (v : Coefs) (f : Ranged v) (out : Plane) (s : SameOn (planeRows g n) (w / 2) out (outcome wrapping g n w i v)) where
+  module _ (v : Coefs) (f : AllFit v) (out : Plane) (s : SameOn (planeRows g n) (w / 2) out (outcome wrapping g n w i v)) where
     abbrev Got : Level → Type 0
     Got l = SameOn (height g n l + highs g l (height g n l)) (columns w (detail l) + columns w (detail l)) (given g n w l out) (step wrapping g n w l i v (llAt wrapping g n w i v l))
 
@@ -160,25 +156,34 @@ module _ (g : Bool) (n w : ℕ) (t : Tall g n) (k : w % 16 ≡ 0) (i : Colour) w
     got l2 = got2
     got l3 = got3
 
+    -- a coefficient whose row goes in as E is small
+    abbrev SmallAsE : Level → ℕ → ℕ → ℕ → Type 0
+    SmallAsE l c r x =
+        (b : Band) (y : ℕ) → y < bandRows (height g n l) (highs g l (height g n l)) b → fromComponent (source g l (height g n l) b y) ≡ c → fromRow (source g l (height g n l) b y) ≡ r
+        → isEdge (source g l (height g n l) b y) ≡ true → natAbs (v (detail l) i c r x) < 2 ^ 30
+
     -- each row of a band gives its coefficients back
-    gives : (l : Level) (b : Band) (c r x : ℕ) → x < columns w (detail l) → (y : ℕ) → y < bandRows (height g n l) (highs g l (height g n l)) b → fromComponent (source g l (height g n l) b y) ≡ c → fromRow (source g l (height g n l) b y) ≡ r → back (mode l i) (source g l (height g n l) b y) (unband g n w l (given g n w l out) b y x) ≡ v (detail l) i c r x
-    gives l b c r x q y p a z =
+    gives : (l : Level) (b : Band) (c r x : ℕ) → SmallAsE l c r x → x < columns w (detail l) → (y : ℕ) → y < bandRows (height g n l) (highs g l (height g n l)) b
+        → fromComponent (source g l (height g n l) b y) ≡ c → fromRow (source g l (height g n l) b y) ≡ r
+        → back (mode l i) (source g l (height g n l) b y) (unband g n w l (given g n w l out) b y x) ≡ v (detail l) i c r x
+    gives l b c r x ok q y p a z =
         let o = source g l (height g n l) b y in
         ap (back (mode l i) o) (band-back _ _ _ _ (shape g n l t) (llAt wrapping g n w i v l) _ (given g n w l out) (got l) (bands-fit v f l) b y x p q)
-        ∙ value-back (mode l i) o (v (detail l) i) x (f .small l i (fromComponent o) (fromRow o) x)
+        ∙ value-back (mode l i) o (v (detail l) i) x (λ e. rw (a, z) (ok b y p a z e))
         ∙ (λ j. v (detail l) i (a j) (z j) x)
 
-    pub lifted-back : (l : Level) (b : Band) (c r x : ℕ) → x < columns w (detail l) → (y : ℕ) → y < bandRows (height g n l) (highs g l (height g n l)) b → fromComponent (source g l (height g n l) b y) ≡ c → fromRow (source g l (height g n l) b y) ≡ r → liftedBack g n w l i out c r x ≡ v (detail l) i c r x
+    pub lifted-back : (l : Level) (b : Band) (c r x : ℕ) → SmallAsE l c r x → x < columns w (detail l) → (y : ℕ) → y < bandRows (height g n l) (highs g l (height g n l)) b
+        → fromComponent (source g l (height g n l) b y) ≡ c → fromRow (source g l (height g n l) b y) ≡ r → liftedBack g n w l i out c r x ≡ v (detail l) i c r x
     unfolding liftedBack
-    lifted-back l hl c r x q y p a z =
-        seek-found _ _ _ c r x _ (height g n l) _ (gives l hl c r x q) y p a z
-    lifted-back l lh c r x q y p a z =
-        seek-rest _ _ _ c r x _ (height g n l) _ (gives l hl c r x q)
-        (seek-found _ _ _ c r x _ (highs g l (height g n l)) _ (gives l lh c r x q) y p a z)
-    lifted-back l hh c r x q y p a z =
-        seek-rest _ _ _ c r x _ (height g n l) _ (gives l hl c r x q)
-        (seek-rest _ _ _ c r x _ (highs g l (height g n l)) _ (gives l lh c r x q)
-        (seek-found _ _ _ c r x _ (highs g l (height g n l)) _ (gives l hh c r x q) y p a z))
+    lifted-back l hl c r x ok q y p a z =
+        seek-found _ _ _ c r x _ (height g n l) _ (gives l hl c r x ok q) y p a z
+    lifted-back l lh c r x ok q y p a z =
+        seek-rest _ _ _ c r x _ (height g n l) _ (gives l hl c r x ok q)
+        (seek-found _ _ _ c r x _ (highs g l (height g n l)) _ (gives l lh c r x ok q) y p a z)
+    lifted-back l hh c r x ok q y p a z =
+        seek-rest _ _ _ c r x _ (height g n l) _ (gives l hl c r x ok q)
+        (seek-rest _ _ _ c r x _ (highs g l (height g n l)) _ (gives l lh c r x ok q)
+        (seek-found _ _ _ c r x _ (highs g l (height g n l)) _ (gives l hh c r x ok q) y p a z))
 
     pub summed-back : (y x : ℕ) → y < height g n l1 → x < w / 16 → summedBack g n w out 0 (y + start g) x ≡ cut w16 (v base i 0 (y + start g) x)
     unfolding summedBack ll1
@@ -199,29 +204,38 @@ module _ (w H : ℕ) (a : Coded w H) where
   unfolding planes
   green-read v y x p q = read-flat (planeRows (guarded H) (stripes H)) w _ y x p (omega (arith, a .whole))
 
-  out-read : (v : Coefs) → Ranged v → (i : Colour) → SameOn (planeRows (guarded H) (stripes H)) (w / 2) (outOf (guarded H) (stripes H) w (planes wrapping w H v) i) (outcome wrapping (guarded H) (stripes H) w i v)
+  out-read : (v : Coefs) → AllFit v → (i : Colour) → SameOn (planeRows (guarded H) (stripes H)) (w / 2) (outOf (guarded H) (stripes H) w (planes wrapping w H v) i) (outcome wrapping (guarded H) (stripes H) w i v)
   unfolding outOf planes details
   out-read v f green =
       l-back (planeRows (guarded H) (stripes H)) (w / 2) (outcome wrapping (guarded H) (stripes H) w green v) (details v) _ (green-read v)
-      (outcome-fits (guarded H) (stripes H) w tall (a .whole) green v) (λ y x. f .fits final green 0 (chosen (guarded H) y) x)
+      (outcome-fits (guarded H) (stripes H) w tall (a .whole) green v) (λ y x. f final green 0 (chosen (guarded H) y) x)
   out-read v f red = read-flat (planeRows (guarded H) (stripes H)) (w / 2) _
   out-read v f blue = read-flat (planeRows (guarded H) (stripes H)) (w / 2) _
 
-  picked-back : (v : Coefs) → Ranged v → (y x : ℕ) → y < planeRows (guarded H) (stripes H) → x < w / 2 → pickedBack (guarded H) (stripes H) w (planes wrapping w H v) green 0 (chosen (guarded H) y) x ≡ v final green 0 (chosen (guarded H) y) x
+  picked-back : (v : Coefs) → AllFit v → (y x : ℕ) → y < planeRows (guarded H) (stripes H) → x < w / 2 → pickedBack (guarded H) (stripes H) w (planes wrapping w H v) green 0 (chosen (guarded H) y) x ≡ v final green 0 (chosen (guarded H) y) x
   unfolding pickedBack details
   picked-back v f y x p q =
       seek-found false (λ j. S 0 (chosen (guarded H) j)) _ 0 (chosen (guarded H) y) x _ (planeRows (guarded H) (stripes H)) (pos 0)
-      (λ j b c z. d-back (planeRows (guarded H) (stripes H)) (w / 2) (outcome wrapping (guarded H) (stripes H) w green v) (details v) _ (green-read v) (λ k l. f .fits final green 0 (chosen (guarded H) k) l) j x b q ∙ ap (λ (r : ℕ). v final green 0 r x) z)
+      (λ j b c z. d-back (planeRows (guarded H) (stripes H)) (w / 2) (outcome wrapping (guarded H) (stripes H) w green v) (details v) _ (green-read v) (λ k l. f final green 0 (chosen (guarded H) k) l) j x b q ∙ ap (λ (r : ℕ). v final green 0 r x) z)
       y p refl refl
 
-  -- every coefficient of a row that goes in, as it counts
-  pub exact : (v : Coefs) → Ranged v → (m : Group) (i : Colour) (c r x : ℕ) → GoesIn (guarded H) (stripes H) m i c r → x < columns w m → recover w H (planes wrapping w H v) m i c r x ≡ counted m (v m i c r x)
+  -- every coefficient of a row that goes in, as it counts: as itself, or small
+  pub exact : (v : Coefs) → AllFit v → (m : Group) (i : Colour) (c r x : ℕ) (q : GoesIn (guarded H) (stripes H) m i c r) → (asE q ≡ true → natAbs (v m i c r x) < 2 ^ 30) → x < columns w m → recover w H (planes wrapping w H v) m i c r x ≡ counted m (v m i c r x)
   unfolding recover
-  exact v f m i c r x (summed j y p) q =
+  exact v f m i c r x (summed j y p) ok q =
       summed-back (guarded H) (stripes H) w tall (a .whole) i v f _ (out-read v f i) y x p q
-  exact v f m i c r x (lifted l j b y p) q =
-      lifted-back (guarded H) (stripes H) w tall (a .whole) i v f _ (out-read v f i) l b c r x q y p refl refl
-  exact v f m i c r x (picked y p) q = picked-back v f y x p q
+  exact v f m i c r x (lifted l j b y p) ok q =
+      lifted-back (guarded H) (stripes H) w tall (a .whole) i v f _ (out-read v f i) l b c r x
+      (λ d z h e k s. ok (sym (one-way (guarded H) (stripes H) tall l b d y z p h e k) ∙ s)) q y p refl refl
+  exact v f m i c r x (picked y p) ok q = picked-back v f y x p q
+
+  pub exact-ranged : (v : Coefs) → Ranged v → (m : Group) (i : Colour) (c r x : ℕ) → GoesIn (guarded H) (stripes H) m i c r → x < columns w m → recover w H (planes wrapping w H v) m i c r x ≡ counted m (v m i c r x)
+  exact-ranged v f m i c r x q = exact v (f .fits) m i c r x q (small q)
+    where
+      small : {m : Group} {i : Colour} {c r : ℕ} (q : GoesIn (guarded H) (stripes H) m i c r) → asE q ≡ true → natAbs (v m i c r x) < 2 ^ 30
+      small (summed j y p) e = absurd (false≢true e)
+      small (lifted l j b y p) e = f .small l _ _ _ x
+      small (picked y p) e = absurd (false≢true e)
 
   -- two tiles of one coded size: all coefficients of the rows that go in are the same, as they count
   abbrev pub SameCoefs : Coefs → Coefs → Type 0
@@ -232,7 +246,7 @@ module _ (w H : ℕ) (a : Coded w H) where
 
   pub coefs-of-planes : (u v : Coefs) → Ranged u → Ranged v → SamePlanes u v → SameCoefs u v
   coefs-of-planes u v f g e m i c r x t q =
-      sym (exact u f m i c r x t q) ∙ (λ j. recover w H (λ k. e k j) m i c r x) ∙ exact v g m i c r x t q
+      sym (exact-ranged u f m i c r x t q) ∙ (λ j. recover w H (λ k. e k j) m i c r x) ∙ exact-ranged v g m i c r x t q
 
   pub planes-of-coefs : (u v : Coefs) → SameCoefs u v → SamePlanes u v
   unfolding planes

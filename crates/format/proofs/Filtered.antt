@@ -4,7 +4,7 @@ use mathlib.Core.Bool.{Bool, true, false}
 use Prim.Native.Nat.{ℕ, _+_, _-_, _/_, _%_, _≤_, _<_}
 use native.Mathlib.Omega.{arith}
 use Rattle.wrap32.specs.Arithmetic.{whole}
-use Rattle.format.specs.Sizes.{Colour, green, red, blue, Level, l1, l2, l3, detail, columns, planeRows, planeColumns}
+use Rattle.format.specs.Sizes.{Colour, green, red, blue, Level, l1, l2, l3, detail, columns, planeRows, planeColumns, Tall}
 use Rattle.format.specs.Coefficients.{Coefs}
 use Rattle.format.specs.Lifting.{Plane, weave, Lead, lowLeads, highLeads, Shape, SameOn}
 use Rattle.format.specs.Table.{height, lead, highs, Band, hl, lh, hh}
@@ -15,7 +15,7 @@ use Rattle.format.proofs.LiftingLaws.{lift-same}
 use Rattle.format.proofs.LevelLaws.{level-same}
 use Rattle.format.proofs.GreenLaws.{greens-same}
 use Rattle.format.proofs.T800Laws.{whole-is-filter}
-use Rattle.format.proofs.Exact.{Tall, shape, rows-after}
+use Rattle.format.proofs.Exact.{shape, rows-after}
 
 starts : (d : Lead) → Starts d (firstPlace d)
 starts lowLeads = refl
@@ -48,7 +48,8 @@ columns-some w l3 h = omega arith
 
 module _ (g : Bool) (n w : ℕ) (t : Tall g n) (wide : 16 ≤ w) (l : Level) where
   -- lo and hi, from lows that are the same where they are read
-  pub down-at : (low low′ high : Plane) → SameOn (height g n l) (columns w (detail l)) low low′ → SameOn (height g n l + highs g l (height g n l)) (columns w (detail l)) (down whole (lead g l) (height g n l) (highs g l (height g n l)) low high) (filteredDown (lead g l) (height g n l) (highs g l (height g n l)) low′ high)
+  pub down-at : (low low′ high : Plane) → SameOn (height g n l) (columns w (detail l)) low low′
+      → SameOn (height g n l + highs g l (height g n l)) (columns w (detail l)) (down whole (lead g l) (height g n l) (highs g l (height g n l)) low high) (filteredDown (lead g l) (height g n l) (highs g l (height g n l)) low′ high)
   down-at low low′ high s y x p q =
       lift-same whole _ _ (lead g l) _ _ _ (λ j. high j x) (shape g n l t) (λ j z. s j x z q) (λ _ _. refl) y p
       ∙ down-is _ _ _ _ (height-some g n l t) (columns-some w l wide) (shape g n l t) low′ high y x p

@@ -21,7 +21,7 @@ use Rattle.format.specs.Synthesis.{bands, planes}
 use Rattle.format.specs.Ordinary.{OrdinarySelectors, filteredPlanes, Filtered, AtMost, Bounded}
 use Rattle.format.proofs.Exact.{tall-of}
 use Rattle.format.proofs.PlaceLaws.{flat-same, flat-map}
-use Rattle.format.proofs.Accepted.{Good}
+use Rattle.format.specs.Accepted.{Good}
 use Rattle.format.proofs.Accepted as accept
 use Rattle.format.proofs.Ranges.{each-flat, small-coefs}
 use Rattle.format.proofs.Bounds.{Over, Fair, bands-are, ll-is, step-lo, step-hi, outcome-is, odds-are, plane-is}

@@ -106,7 +106,10 @@ module _ {N : Type 0} (A : Arithmetic N) (ok : Faithful A) where
 
 -- of an ordinary stream: from the averages and the details in checked arithmetic, in the code's order, every number of green is there
 pub none-leaves : (s : List ℕ) (a : Admitted s) (low : OrdinarySelectors s)
-    → flat (planeRowsOf (codedHeight s)) (width s) (greensBy checked (planeRowsOf (codedHeight s)) (width s / 2) (outcome checked (guarded (codedHeight s)) (stripes (codedHeight s)) (width s) green (coefs s)) (λ y x. within (coefs s final green 0 (chosen (guarded (codedHeight s)) y) x)))
+    → flat (planeRowsOf (codedHeight s)) (width s)
+    (greensBy checked (planeRowsOf (codedHeight s)) (width s / 2)
+    (outcome checked (guarded (codedHeight s)) (stripes (codedHeight s)) (width s) green (coefs s))
+    (λ y x. within (coefs s final green 0 (chosen (guarded (codedHeight s)) y) x)))
     ≡ map number (planes wrapping (width s) (codedHeight s) (coefs s) green)
 unfolding planes
 none-leaves s a low =

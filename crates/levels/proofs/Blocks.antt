@@ -13,14 +13,14 @@ use Rattle.lists.proofs.Rings.{rung-kept}
 use Rattle.lists.proofs.Rows.{rows-same}
 use Rattle.format.specs.Coefficients.{Coefs}
 use Rattle.format.specs.Lifting.{Plane}
-use Rattle.format.specs.Sizes.{Colour, Level, l1, l2, l3, Group, base, detail, final, multiplier, columns, planeRows}
+use Rattle.format.specs.Sizes.{Colour, Level, l1, l2, l3, Group, base, detail, final, multiplier, columns, planeRows, Tall}
 use Rattle.format.specs.Synthesis.{bands, ll1, ll2, ll3, outcome, flat}
 use Rattle.format.specs.Table.{start, height, highs, source, bandRows, fromComponent, fromRow}
 use Rattle.format.specs.Table as table
-use Rattle.format.proofs.Exact.{Tall, rows-after, after-most}
+use Rattle.format.proofs.Exact.{rows-after, after-most}
 use Rattle.format.proofs.TableLaws.{source-in}
 use Rattle.passes.specs.declared.Plan.{Plan}
-use Rattle.passes.specs.Plan.{line, unitOf, Fits}
+use Rattle.passes.specs.Plan.{line, unitOf, ll2Units, llUnits, finalUnits, Fits}
 use Rattle.levels.specs.Placed.{llIn, sourceIn, outIn}
 use Rattle.levels.specs.Steps.{steps, rowsAfter, rowsBy, next, outRow, Near, Makes}
 use Rattle.levels.specs.Block.{stood, recordSize, recordLines, Stood, groupAt, Records, Seconds, Lowered, Outcomes}
@@ -29,7 +29,7 @@ use Rattle.levels.proofs.InBlock.{outUnits}
 use Rattle.levels.proofs.Stood.{stood-row, source-line, sums-line}
 
 -- a group's ring of records ends in the first 64 units of its block
-pub group-room : (z : Plan) (at : ℕ) → z .w % 16 ≡ 0 → (m : Group) → groupAt z at m + z .slots * recordSize (z .w) m ≤ at + 64 * unitOf z
+pub group-room : (z : Plan) (at : ℕ) → z .w % 16 ≡ 0 → (m : Group) → groupAt z at m + z .slots * recordSize (z .w) m ≤ at + ll2Units * unitOf z
 group-room z at k base = omega arith
 group-room z at k (detail l1) = omega arith
 group-room z at k (detail l2) = let d : z .w / 8 ≡ 2 * (z .w / 16) = omega (arith, k) in rw d (omega arith)
@@ -47,7 +47,7 @@ pub base-line : (w : ℕ) (p : ℕ → Plane) (t : ℕ) → recordLines w base p
 unfolding rows
 base-line w p t = let e : t * 1 + 0 ≡ t = omega arith in ap (line (w / 16) (p 0)) e
 
--- group 0's rows that go in are records of it
+-- the rows of level 1's ll are records of group 0
 start-below : (g : Bool) (n y : ℕ) → y < height g n l1 → y + start g < n + 1
 start-below false n y t = omega arith
 start-below true n y t = omega arith
@@ -63,9 +63,15 @@ module _ (z : Plan) (at : ℕ) (fits : Fits z at) (v : Coefs) (i : Colour) where
   g = z .guarded
 
   -- ---- what a range of a level's steps reads
+  -- the records that its bands' rows are of are records lo to hi
+  abbrev Live : Level → ℕ → ℕ → ℕ → ℕ → Type 0
+  Live l lo hi from count =
+      (b : table.Band) (y : ℕ) → from ≤ y + 1 → y ≤ from + count → y < bandRows (height g (z .n) l) (highs g l (height g (z .n) l)) b
+      → (lo ≤ fromRow (source g l (height g (z .n) l) b y) / multiplier (detail l)) × (fromRow (source g l (height g (z .n) l) b y) / multiplier (detail l) < hi)
+
   -- its bands' rows, where their records stand
   pub near-bands : (l : Level) (lo hi from count : ℕ) (work : List ℤ) → Stood z v (detail l) i (groupAt z at (detail l)) lo hi work
-      → ((b : table.Band) (y : ℕ) → from ≤ y + 1 → y ≤ from + count → y < bandRows (height g (z .n) l) (highs g l (height g (z .n) l)) b → (lo ≤ fromRow (source g l (height g (z .n) l) b y) / multiplier (detail l)) × (fromRow (source g l (height g (z .n) l) b y) / multiplier (detail l) < hi))
+      → Live l lo hi from count
       → (b : table.Band) (y : ℕ) → from ≤ y + 1 → y ≤ from + count → y < bandRows (height g (z .n) l) (highs g l (height g (z .n) l)) b
       → part work (sourceIn g (z .w) (z .n) (z .slots) at l b y) (columns (z .w) (detail l)) ≡ line (columns (z .w) (detail l)) (bands wrapping g l (height g (z .n) l) i (v (detail l) i) b) y
   near-bands l lo hi from count work r live b y p q t =
@@ -108,7 +114,7 @@ module _ (z : Plan) (at : ℕ) (fits : Fits z at) (v : Coefs) (i : Colour) where
         rw (k .0) at (h .stand 0 0 (omega arith) (omega (arith, k .0, k .1)) (λ r _ c. absurd (omega (arith, c))))
 
     -- records stay where nothing below 64 units has changed
-    stood-kept : (m : Group) (work after : List ℤ) → ((s k : ℕ) → s + k ≤ at + 64 * unitOf z → part after s k ≡ part work s k) → Stood z v m i (groupAt z at m) 0 (z .n + 1) work → Stood z v m i (groupAt z at m) 0 (z .n + 1) after
+    stood-kept : (m : Group) (work after : List ℤ) → ((s k : ℕ) → s + k ≤ at + ll2Units * unitOf z → part after s k ≡ part work s k) → Stood z v m i (groupAt z at m) 0 (z .n + 1) work → Stood z v m i (groupAt z at m) 0 (z .n + 1) after
     stood-kept m work after e =
         rung-kept (groupAt z at m) (recordSize (z .w) m) (z .slots) (recordLines (z .w) m (stood g (z .n) v m i)) 0 (z .n + 1) work after (fits .1 .some)
         (λ s k _ b. e s k (omega (arith, b, group-room z at (fits .0 .whole) m)))
@@ -128,7 +134,7 @@ module _ (z : Plan) (at : ℕ) (fits : Fits z at) (v : Coefs) (i : Colour) where
           rw (rows-after g (z .n) l1 (fits .0 .tall)) at
           (made-whole l1 (outIn (z .w) (z .slots) at l1) (ll1 wrapping g (z .n) (z .w) i v) (bands wrapping g l1 (height g (z .n) l1) i (v (detail l1) i)) work a first-gone)
 
-      first-beside : (s m : ℕ) → Apart s m (outIn (z .w) (z .slots) at l1) (4 * unitOf z) → part a s m ≡ part work s m
+      first-beside : (s m : ℕ) → Apart s m (outIn (z .w) (z .slots) at l1) (outUnits l1 * unitOf z) → part a s m ≡ part work s m
       first-beside s m o = first-gone .beside s m (rw (out-size z (fits .0 .whole) l1) o)
 
       second-gone : Gone (outIn (z .w) (z .slots) at l2) (z .w / 4) (z .slots * 4) (line (z .w / 4) (ll3 wrapping g (z .n) (z .w) i v)) 0 (rowsBy g (z .n) l2 (0 + steps g (z .n) l2)) a b
@@ -139,10 +145,10 @@ module _ (z : Plan) (at : ℕ) (fits : Fits z at) (v : Coefs) (i : Colour) where
             bands = whole-bands l2 0 (steps g (z .n) l2) a (stood-kept (detail l2) work a (λ s k h. first-beside s k (inl h)) (r .details l2));
           })
 
-      second-beside : (s m : ℕ) → Apart s m (outIn (z .w) (z .slots) at l2) (16 * unitOf z) → part b s m ≡ part a s m
+      second-beside : (s m : ℕ) → Apart s m (outIn (z .w) (z .slots) at l2) (outUnits l2 * unitOf z) → part b s m ≡ part a s m
       second-beside s m o = second-gone .beside s m (rw (out-size z (fits .0 .whole) l2) o)
 
-      both-beside : (s m : ℕ) → Apart s m (outIn (z .w) (z .slots) at l1) (20 * unitOf z) → part b s m ≡ part work s m
+      both-beside : (s m : ℕ) → Apart s m (outIn (z .w) (z .slots) at l1) (llUnits * unitOf z) → part b s m ≡ part work s m
       both-beside s m (inl h) = second-beside s m (inl (omega (arith, h))) ∙ first-beside s m (inl h)
       both-beside s m (inr h) = second-beside s m (inr (omega (arith, h))) ∙ first-beside s m (inr (omega (arith, h)))
 
@@ -185,5 +191,5 @@ module _ (z : Plan) (at : ℕ) (fits : Fits z at) (v : Coefs) (i : Colour) where
             rw (rows-after g (z .n) l3 (fits .0 .tall)) at
             (made-whole l3 out (ll3 wrapping g (z .n) (z .w) i v) (bands wrapping g l3 (height g (z .n) l3) i (v (detail l3) i)) b after third-gone)
 
-        pub outcomes-beside : (s m : ℕ) → Apart s m (outIn (z .w) (z .slots) at l1) (20 * unitOf z) → Apart s m out (64 * unitOf z) → part after s m ≡ part work s m
+        pub outcomes-beside : (s m : ℕ) → Apart s m (outIn (z .w) (z .slots) at l1) (llUnits * unitOf z) → Apart s m out (finalUnits * unitOf z) → part after s m ≡ part work s m
         outcomes-beside s m o p = third-gone .beside s m (rw (out-size z (fits .0 .whole) l3) p) ∙ low .beside s m o

@@ -9,14 +9,14 @@ use Rattle.format.specs.Table.{start, height, highs, hl, lh, hh, source, bandRo
 use Rattle.format.specs.Table as table
 use Rattle.format.proofs.TableLaws.{source-in}
 use Rattle.passes.specs.declared.Level as code
-use Rattle.passes.specs.Plan.{Sized, Slots}
-use Rattle.passes.specs.Level.{Lows, Highs}
+use Rattle.passes.specs.Plan.{Sized, Slots, finalUnits}
+use Rattle.passes.specs.Level.{Lows, Highs, Stands}
 use Rattle.passes.proofs.PlaceLaws.{place-is}
 use Rattle.levels.specs.Placed.{packetIn, rowIn, llIn, sourceIn, outIn, Placed}
 use Rattle.levels.proofs.Heights.{row-count, few-rows}
 
 module _ (w s at : ℕ) (z : w % 16 ≡ 0) (some : 1 ≤ s) where
-  row-in-slots : (l : Level) (c r : ℕ) → c < 3 → rowIn w s (at + packetIn s (w / 16) (detail l)) (detail l) c r + columns w (detail l) ≤ at + 64 * (s * (w / 16))
+  row-in-slots : (l : Level) (c r : ℕ) → c < 3 → rowIn w s (at + packetIn s (w / 16) (detail l)) (detail l) c r + columns w (detail l) ≤ outIn w s at l1
   row-in-slots l1 c r a =
       let x = r % (s * 1) in
       let b : x < s * 1 = mod-lt r (omega (arith, some)) in
@@ -27,7 +27,7 @@ module _ (w s at : ℕ) (z : w % 16 ≡ 0) (some : 1 ≤ s) where
   row-in-slots l2 c r a =
       let x = r % (s * 2) in
       let b : x < s * 2 = mod-lt r (omega (arith, some)) in
-      let e = place-is (at + 4 * (s * (w / 16))) 2 3 (w / 8) c x in
+      let e = place-is (at + packetIn s (w / 16) (detail l2)) 2 3 (w / 8) c x in
       let t : suc ((x / 2 * 3 + c) * 2 + x % 2) ≤ s * 6 = omega (arith, a, b) in
       let d : w / 8 ≡ 2 * (w / 16) = omega (arith, z) in
       let m : suc ((x / 2 * 3 + c) * 2 + x % 2) * (w / 8) ≤ (s * 6) * (2 * (w / 16)) = rw (← d) (mul-le-mul-right (w / 8) t) in
@@ -35,7 +35,7 @@ module _ (w s at : ℕ) (z : w % 16 ≡ 0) (some : 1 ≤ s) where
   row-in-slots l3 c r a =
       let x = r % (s * 4) in
       let b : x < s * 4 = mod-lt r (omega (arith, some)) in
-      let e = place-is (at + 16 * (s * (w / 16))) 4 3 (w / 4) c x in
+      let e = place-is (at + packetIn s (w / 16) (detail l3)) 4 3 (w / 4) c x in
       let t : suc ((x / 4 * 3 + c) * 4 + x % 4) ≤ s * 12 = omega (arith, a, b) in
       let d : w / 4 ≡ 4 * (w / 16) = omega (arith, z) in
       let m : suc ((x / 4 * 3 + c) * 4 + x % 4) * (w / 4) ≤ (s * 12) * (4 * (w / 16)) = rw (← d) (mul-le-mul-right (w / 4) t) in
@@ -56,7 +56,7 @@ module _ (w s at : ℕ) (z : w % 16 ≡ 0) (some : 1 ≤ s) where
       let m : suc (y % (s * 4)) * (w / 4) ≤ (s * 4) * (4 * (w / 16)) = rw (← d) (mul-le-mul-right (w / 4) b) in
       omega (arith, m)
 
-  out-least : (l : Level) → at + 64 * (s * (w / 16)) ≤ outIn w s at l
+  out-least : (l : Level) → outIn w s at l1 ≤ outIn w s at l
   out-least l1 = omega arith
   out-least l2 = omega arith
   out-least l3 = omega arith
@@ -67,22 +67,25 @@ module _ (g : Bool) (w n s at : ℕ) (z : Sized g w n) (k : Slots w s at) (l : L
       let i = source-in g n (z .tall) l b y p in
       omega (arith, e, row-in-slots w s at (z .whole) (k .some) l (fromComponent (source g l (height g n l) b y)) (fromRow (source g l (height g n l) b y)) (i .1), out-least w s at (z .whole) (k .some) l, o)
 
-  pub placed-lows : Lows r out
+  placed-lows : Lows r out
   placed-lows y p =
       let q : y < height g n l = rw (f .rows) at p in
       let c : y < 2 ^ 40 = omega (arith, q, few-rows g n l (z .few) .0) in
       rw (f .cols) ((omega (arith, f .lls y q, ll-in-slots w s at (z .whole) (k .some) g l y, o), row-count (r .ll) y (f .shorts .ll) c), (band-in hl _ y (f .hls y q) q, row-count (r .hl) y (f .shorts .hl) c))
 
-  pub placed-highs : Highs r (highs g l (height g n l)) out
+  placed-highs : Highs r (highs g l (height g n l)) out
   placed-highs y p =
       let c : y < 2 ^ 40 = omega (arith, p, few-rows g n l (z .few) .1) in
       rw (f .cols) ((band-in lh _ y (f .lhs y p) p, row-count (r .lh) y (f .shorts .lh) c), (band-in hh _ y (f .hhs y p) p, row-count (r .hh) y (f .shorts .hh) c))
+
+  pub placed-stands : Stands r (highs g l (height g n l)) out
+  placed-stands = record { lows = placed-lows; highs = placed-highs; placeable = f .placeable }
 
 -- the units of the ring that a level's outcome goes to
 abbrev pub outUnits : Level → ℕ
 outUnits l1 = 4
 outUnits l2 = 16
-outUnits l3 = 64
+outUnits l3 = finalUnits
 
 pub out-room : (w s : ℕ) → w % 16 ≡ 0 → (l : Level) (out : ℕ) → out + s * multiplier (detail l) * (4 * columns w (detail l)) ≡ out + outUnits l * (s * (w / 16))
 out-room w s z l1 out = omega arith

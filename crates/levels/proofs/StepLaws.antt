@@ -10,9 +10,10 @@ use lib.ListN.{length}
 use Rattle.lists.proofs.Laid.{length-laid, laid-out}
 use Rattle.lifting.specs.Lift.{liftRow, endRow}
 use Rattle.passes.specs.declared.Level as code
-use Rattle.passes.specs.Level.{Lows, Highs, pairAt, bandRow, loH, hiH, loL, hiL}
+use Rattle.passes.specs.Level.{pairAt, bandRow, loH, hiH, loL, hiL, Stands}
 use Rattle.passes.proofs.PlaceLaws.{pair-in}
-use Rattle.passes.proofs.PassLaws.{length-two, Same}
+use Rattle.lists.specs.Lists.{SameBelow}
+use Rattle.passes.proofs.PassLaws.{length-two}
 use Rattle.passes.proofs.LeadLaws.{length-lead, high-end, lead-low-same, lead-end-same, lead-end-same-hi}
 use Rattle.levels.specs.Steps.{passedTwo, pairsIn}
 
@@ -29,23 +30,23 @@ module _ (leads : Bool) (g : code.Level) (m out pairs : ℕ) (work : List ℤ) (
       length-laid (λ (k : ℕ). pairAt out pairs (g .c) (from + k)) (λ (k : ℕ). passedTwo leads g m work (from + k)) work (4 * g .c) count
       (λ k. length-passed leads (from + k)) (λ k _. fits k) count (omega arith)
 
-  pub pairs-same : (count : ℕ) → Same out (pairsIn leads g m out pairs work from count) work
+  pub pairs-same : (count : ℕ) → SameBelow out (pairsIn leads g m out pairs work from count) work
   pairs-same count s k b =
       laid-out (λ (j : ℕ). pairAt out pairs (g .c) (from + j)) (λ (j : ℕ). passedTwo leads g m work (from + j)) work (4 * g .c) count
       (λ j. length-passed leads (from + j)) (λ j _. fits j) s k count (omega arith)
       (λ j _. inl (omega (arith, b, pair-in out pairs (g .c) (from + j) some .0)))
 
 -- the row after the last pair
-pub last-same : (g : code.Level) (m out : ℕ) (after work : List ℤ) → Same out after work → Lows g out → Highs g m out → 1 ≤ g .h → m ≡ g .h + 1
+pub last-same : (g : code.Level) (m out : ℕ) (after work : List ℤ) → SameBelow out after work → Stands g m out → 1 ≤ g .h → m ≡ g .h + 1
     → liftRow (g .c) (loH g m after (g .h)) (hiH g m after (g .h)) ≡ liftRow (g .c) (loH g m work (g .h)) (hiH g m work (g .h))
-last-same g m out after work same lows highs some e =
+last-same g m out after work same z some e =
     let p = high-end g m after (g .h) some (omega arith) in
     let q = high-end g m work (g .h) some (omega arith) in
-    let f = lead-low-same g m after work out same lows highs (g .h - 1) (omega (arith, some)) (omega (arith, some, e)) in
+    let f = lead-low-same g m after work out same z (g .h - 1) (omega (arith, some)) (omega (arith, some, e)) in
     let lo =
     p .0 ∙ ap (endRow (g .c) (bandRow after (g .c) (g .lh) (g .h))) (f .0)
-    ∙ lead-end-same g m after work out same lows highs (g .h) (loL g m work (g .h - 1)) (omega (arith, e)) ∙ sym (q .0) in
+    ∙ lead-end-same g m after work out same z (g .h) (loL g m work (g .h - 1)) (omega (arith, e)) ∙ sym (q .0) in
     let hi =
     p .1 ∙ ap (endRow (g .c) (bandRow after (g .c) (g .hh) (g .h))) (f .1)
-    ∙ lead-end-same-hi g m after work out same lows highs (g .h) (hiL g m work (g .h - 1)) (omega (arith, e)) ∙ sym (q .1) in
+    ∙ lead-end-same-hi g m after work out same z (g .h) (hiL g m work (g .h - 1)) (omega (arith, e)) ∙ sym (q .1) in
     (λ i. liftRow (g .c) (lo i) (hi i))

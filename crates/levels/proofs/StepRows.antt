@@ -2,7 +2,7 @@
 use mathlib.Core.Path.{_≡_, refl, sym, ap, _∙_, subst₃}
 use mathlib.Core.Bool.{Bool, true, false, cond}
 use mathlib.Core.List.{List, _++_}
-use Prim.Native.Nat.{ℕ, _+_, _-_, _*_, _/_, _%_, _≤_, _<_}
+use Prim.Native.Nat.{ℕ, _+_, _-_, _*_, _%_, _≤_, _<_}
 use native.Mathlib.Omega.{arith}
 use lib.Dec.{ltb}
 use borrow.Author.Tests.{ltb-true, ltb-false}
@@ -21,14 +21,15 @@ use Rattle.format.specs.Table.{height, lead, highs, hl, lh, hh}
 use Rattle.format.specs.Table as table
 use Rattle.lifting.specs.Lift.{liftRow}
 use Rattle.passes.specs.declared.Level as code
-use Rattle.passes.specs.Plan.{line, Sized, Slots}
-use Rattle.passes.specs.Level.{Lows, Highs, Sound, twoRows, loH, hiH, pairAt}
+use Rattle.passes.specs.declared.Plan.{Plan}
+use Rattle.passes.specs.Plan.{line, threeRows, unitOf, Sized, Fits}
+use Rattle.passes.specs.Level.{InPlace, twoRows, loH, hiH, pairAt}
 use Rattle.passes.proofs.PlaceLaws.{pair-is}
 use Rattle.passes.proofs.Planes.{LowLine, HighLine, pair-line, lead-line, lead-high-line}
-use Rattle.levels.specs.Placed.{outIn, Placed}
+use Rattle.levels.specs.Placed.{outIn, Placed, PlacedBy}
 use Rattle.levels.specs.Steps.{passedTwo, pairsIn, stepsIn, steps, rowsBy, next, outRow, Near}
 use Rattle.levels.proofs.Heights.{leads, heights, height-pos, highs-3, next-columns, next-rows}
-use Rattle.levels.proofs.InBlock.{outUnits, out-room, placed-lows, placed-highs}
+use Rattle.levels.proofs.InBlock.{outUnits, out-room, placed-stands}
 use Rattle.levels.proofs.StepLaws.{pairs-length}
 
 abbrev leadOf : Bool → Lead
@@ -116,9 +117,16 @@ module _ (g : Bool) (w n s at : ℕ) (z : Sized g w n) (l : Level) (r : code.Lev
           (λ j _. pair-is out pairs (r .c) (from + j) ∙ ap (λ (c : ℕ). out + (from + j) % pairs * (4 * c)) (f .cols))
           (λ j c. pair-made d (from + j) (omega arith) (omega (arith, c, a)) (omega (arith, c, h))))
 
+      -- `count` steps, where t says whether they end with the row after the last pair
+      abbrev ended : Bool → Bool → List ℤ
+      ended d t =
+          cond t
+          (putAt (pairsIn d r high out pairs work from (r .h - from)) (pairAt out pairs (r .c) (r .h)) (liftRow (r .c) (loH r high work (r .h)) (hiH r high work (r .h))))
+          (pairsIn d r high out pairs work from count)
+
       -- the steps end with a pair, or with the row after the last one
       steps-made : (d : Bool) → (d ≡ false → high ≡ height g n l) → from < high → from + count ≤ high → (t : Bool) → ltb (r .h) (from + count) ≡ t
-          → Gone out (2 * cols) (2 * pairs) (made (leadOf d)) from (rowsBy g n l (from + count)) work (cond t (putAt (pairsIn d r high out pairs work from (r .h - from)) (pairAt out pairs (r .c) (r .h)) (liftRow (r .c) (loH r high work (r .h)) (hiH r high work (r .h)))) (pairsIn d r high out pairs work from count))
+          → Gone out (2 * cols) (2 * pairs) (made (leadOf d)) from (rowsBy g n l (from + count)) work (ended d t)
       steps-made d e o a false t =
           let b = ltb-false (r .h) (from + count) t in
           let k : rowsBy g n l (from + count) ≡ 2 * (from + count) = omega (arith, b, f .rows, heights g n (z .tall) l .0) in
@@ -144,41 +152,54 @@ module _ (g : Bool) (w n s at : ℕ) (z : Sized g w n) (l : Level) (r : code.Lev
           (rw q (steps-made (leads g l) (heights g n (z .tall) l .2) o a (ltb (r .h) (from + count)) refl))
 
 -- ---- what a level asks of its caller, and gives it
-module _ (g : Bool) (w n s at : ℕ) (z : Sized g w n) (k : Slots w s at) (l : Level) (r : code.Level) (f : Placed g w n s at l r) (m : ℕ) (e : m ≡ steps g n l) (out pairs : ℕ) (p : pairs ≡ s * multiplier (detail l)) (from count : ℕ) (a : from < steps g n l) (b : from + count ≤ steps g n l) (size : ℕ) (room : out + outUnits l * (s * (w / 16)) ≤ size) where
-  some-pairs : (l : Level) → pairs ≡ s * multiplier (detail l) → 1 ≤ pairs
-  some-pairs l1 p = omega (arith, p, k .some)
-  some-pairs l2 p = omega (arith, p, k .some)
-  some-pairs l3 p = omega (arith, p, k .some)
+module _ (plan : Plan) (at : ℕ) (fits : Fits plan at) (l : Level) (r : code.Level) (f : PlacedBy plan at l r) where
+  abbrev g : Bool
+  g = plan .guarded
 
-  ring-room : out + pairs * (4 * columns w (detail l)) ≤ size
-  ring-room = rw p (omega (arith, out-room w s (z .whole) l out, room))
+  abbrev w : ℕ
+  w = plan .w
 
-  pub level-asks : (ring : ℕ) → outIn w s at l ≤ out → ring ≡ 6 * columns w (detail l)
-      → (1 ≤ r .h) × (from < m) × (from + count ≤ m) × (r .h ≤ m) × (m ≤ r .h + 1) × (leads g l ≡ false → m ≡ r .h) × (ring ≡ 6 * r .c) × (out + pairs * (4 * r .c) ≤ size) × (1 ≤ pairs) × Lows r out × Highs r m out × Sound r
-  level-asks ring o q =
-      let t = heights g n (z .tall) l in
-      let h = f .rows in (
-        omega (arith, h, height-pos g n (z .tall) l),
-        omega (arith, e, a),
-        omega (arith, e, b),
-        omega (arith, e, h, t .0),
-        omega (arith, e, h, t .1),
-        (λ d. e ∙ t .2 d ∙ sym h),
-        q ∙ ap (λ (j : ℕ). 6 * j) (sym (f .cols)),
-        rw (f .cols) ring-room,
-        some-pairs l p,
-        placed-lows g w n s at z k l r f out o,
-        rw e (placed-highs g w n s at z k l r f out o),
-        f .sound,
-      )
+  abbrev n : ℕ
+  n = plan .n
 
-  pub level-gives : (ll : Plane) (d : table.Band → Plane) (work after : List ℤ) → length work ≡ size → Near g w n s at l (from - 1) from count ll d work
-      → after ≡ stepsIn (leads g l) r m out pairs work from count
-      → Gone out (columns w (next l)) (s * multiplier (next l)) (outRow g w n l ll d) from (rowsBy g n l (from + count)) work after
-  level-gives ll d work after long near q =
-      steps-gone g w n s at z l r f (from - 1) from count ll d work near (omega arith) out pairs (some-pairs l p) (omega (arith, long, ring-room))
-      (ap (λ (x : ℕ). 2 * x) p ∙ next-rows s l) a b after
-      (q ∙ ap (λ (x : ℕ). stepsIn (leads g l) r x out pairs work from count) e)
+  abbrev s : ℕ
+  s = plan .slots
+
+  module _ (m : ℕ) (e : m ≡ steps g n l) (out pairs : ℕ) (p : pairs ≡ s * multiplier (detail l)) (from count : ℕ) (a : from < steps g n l) (b : from + count ≤ steps g n l) (size : ℕ) (room : out + outUnits l * unitOf plan ≤ size) where
+    some-pairs : (l : Level) → pairs ≡ s * multiplier (detail l) → 1 ≤ pairs
+    some-pairs l1 p = omega (arith, p, fits .1 .some)
+    some-pairs l2 p = omega (arith, p, fits .1 .some)
+    some-pairs l3 p = omega (arith, p, fits .1 .some)
+
+    ring-room : out + pairs * (4 * columns w (detail l)) ≤ size
+    ring-room = rw p (omega (arith, out-room w s (fits .0 .whole) l out, room))
+
+    pub level-asks : (ring : ℕ) → outIn w s at l ≤ out → ring ≡ threeRows (columns w (detail l))
+        → (1 ≤ r .h) × (from < m) × (from + count ≤ m) × (r .h ≤ m) × (m ≤ r .h + 1) × (leads g l ≡ false → m ≡ r .h) × InPlace r m out pairs size ring
+    level-asks ring o q =
+        let t = heights g n (fits .0 .tall) l in
+        let h = f .rows in (
+          omega (arith, h, height-pos g n (fits .0 .tall) l),
+          omega (arith, e, a),
+          omega (arith, e, b),
+          omega (arith, e, h, t .0),
+          omega (arith, e, h, t .1),
+          (λ d. e ∙ t .2 d ∙ sym h),
+          record {
+            three = q ∙ ap threeRows (sym (f .cols));
+            room = rw (f .cols) ring-room;
+            some = some-pairs l p;
+            stands = rw e (placed-stands g w n s at (fits .0) (fits .1) l r f out o);
+          },
+        )
+
+    pub level-gives : (ll : Plane) (d : table.Band → Plane) (work after : List ℤ) → length work ≡ size → Near g w n s at l (from - 1) from count ll d work
+        → after ≡ stepsIn (leads g l) r m out pairs work from count
+        → Gone out (columns w (next l)) (s * multiplier (next l)) (outRow g w n l ll d) from (rowsBy g n l (from + count)) work after
+    level-gives ll d work after long near q =
+        steps-gone g w n s at (fits .0) l r f (from - 1) from count ll d work near (omega arith) out pairs (some-pairs l p) (omega (arith, long, ring-room))
+        (ap (λ (x : ℕ). 2 * x) p ∙ next-rows s l) a b after
+        (q ∙ ap (λ (x : ℕ). stepsIn (leads g l) r x out pairs work from count) e)
 
 -- rows 2 (from + k) and 2 (from + k) + 1 of level 3
 abbrev pair : Bool → ℕ → ℕ → Plane → (table.Band → Plane) → ℕ → ℕ → List ℤ

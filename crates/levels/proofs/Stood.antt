@@ -15,17 +15,16 @@ use Rattle.wrap32.specs.Arithmetic.{wrapping}
 use Rattle.wrap32.specs.Edge.{edgeDetail}
 use Rattle.format.specs.Coefficients.{Coefs}
 use Rattle.format.specs.Lifting.{Plane}
-use Rattle.format.specs.Sizes.{Colour, Level, Group, base, detail, multiplier, components, columns}
+use Rattle.format.specs.Sizes.{Colour, Level, Group, base, detail, multiplier, components, columns, Tall}
 use Rattle.format.specs.Synthesis.{value, bands, ll1}
-use Rattle.format.specs.Table.{start, height, highs, Source, S, E, source, bandRows, mode, fromComponent, fromRow}
+use Rattle.format.specs.Table.{start, height, highs, Source, S, E, source, bandRows, mode, isEdge, fromComponent, fromRow, asEdge}
 use Rattle.format.specs.Table as table
-use Rattle.format.proofs.Exact.{Tall}
 use Rattle.format.proofs.Ranges.{multiplier-some}
 use Rattle.passes.specs.Plan.{line}
 use Rattle.passes.proofs.PlaceLaws.{place-is}
 use Rattle.levels.specs.Placed.{rowIn}
-use Rattle.levels.specs.Block.{asEdge, stood, recordSize, recordRow, recordLines}
-use Rattle.levels.proofs.Edges.{isEdge, edge-where}
+use Rattle.levels.specs.Block.{stood, recordSize, recordRow, recordLines}
+use Rattle.format.proofs.Edges.{edge-where}
 
 -- row t of component c in record q, of k components of m rows of w numbers
 pub place-split : (q k c m t w : ℕ) → ((q * k + c) * m + t) * w ≡ q * (k * m * w) + (c * m + t) * w

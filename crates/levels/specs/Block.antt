@@ -1,9 +1,8 @@
 -- What stands in a block of the work slice: of each packet of an index the records, finished, and behind them rows of ll of levels 2 and 3.
 use mathlib.Core.Path.{_≡_}
-use mathlib.Core.Bool.{Bool, true, false, cond}
+use mathlib.Core.Bool.{Bool, cond}
 use mathlib.Core.List.{List}
 use Prim.Native.Nat.{ℕ, suc, _+_, _*_, _/_, _%_}
-use lib.Dec.{eqb, ltb}
 use lib.IntN.{ℤ}
 use mir.Syntax.{w16}
 use Rattle.wrap32.specs.Cut.{cut}
@@ -13,20 +12,11 @@ use Rattle.lists.specs.Lists.{Apart, part, rows, Rung}
 use Rattle.format.specs.Coefficients.{Coefs}
 use Rattle.format.specs.Lifting.{Plane}
 use Rattle.format.specs.Sizes.{Colour, Level, l1, l2, l3, Group, base, detail, final, multiplier, components, columns, planeRows}
-use Rattle.format.specs.Synthesis.{sumOf, ll2, ll3, outcome}
-use Rattle.format.specs.Table.{height, mode}
-use Rattle.lifting.specs.Lift.{ends}
+use Rattle.format.specs.Synthesis.{sumOf, ll2, ll3, outcome, flat}
+use Rattle.format.specs.Table.{height, mode, asEdge}
 use Rattle.passes.specs.declared.Plan.{Plan}
-use Rattle.passes.specs.Plan.{line, unitOf}
+use Rattle.passes.specs.Plan.{line, unitOf, llUnits, finalUnits}
 use Rattle.levels.specs.Placed.{packetIn, outIn}
-
--- E belongs to a record: whether row j of component c goes in as E in record t. Only the first and the last record have such rows
-unfoldable pub asEdge : Bool → ℕ → Level → ℕ → ℕ → ℕ → Bool
-asEdge g n l1 t c j = false
-asEdge false n l2 t c j = cond (eqb c 1) (cond (ltb j 1) (ends t n) false) false
-asEdge false n l3 t c j = cond (eqb c 1) (cond (ltb j 2) (ends t n) false) false
-asEdge true n l2 t c j = cond (eqb c 0) (cond (eqb j 1) (eqb t 0) false) false
-asEdge true n l3 t c j = cond (eqb c 0) (cond (eqb j 2) (ends t n) false) false
 
 -- a group's coefficients as they stand, finished: group 0's rows as running sums, those of groups 2 and 3 with E where it goes in
 unfoldable pub stood : Bool → ℕ → Coefs → Group → Colour → ℕ → Plane
@@ -68,7 +58,11 @@ Thirds z v i at lo hi work = Rung (outIn (z .w) (z .slots) at l2) (z .w / 4) (z 
 -- levels 1 and 2 of a block are made: ll of level 3 stands whole, and beside the rings of both ll's nothing has changed
 pub record Lowered (z : Plan) (v : Coefs) (i : Colour) (at : ℕ) (work after : List ℤ) : Type 0 where
   pub thirds : Thirds z v i at 0 (height (z .guarded) (z .n) l3) after
-  pub beside : (s m : ℕ) → Apart s m (outIn (z .w) (z .slots) at l1) (20 * unitOf z) → part after s m ≡ part work s m
+  pub beside : (s m : ℕ) → Apart s m (outIn (z .w) (z .slots) at l1) (llUnits * unitOf z) → part after s m ≡ part work s m
+
+-- the outcome of the three levels as a plane
+abbrev pub outcomePlane : Plan → Coefs → Colour → List ℤ
+outcomePlane z v i = flat (planeRows (z .guarded) (z .n)) (z .w / 2) (outcome wrapping (z .guarded) (z .n) (z .w) i v)
 
 -- rows lo to hi of the outcome of the three levels, in a ring from `at` on
 abbrev pub Outcomes : Plan → Coefs → Colour → ℕ → ℕ → ℕ → List ℤ → Type 0
@@ -77,4 +71,4 @@ Outcomes z v i at lo hi work = Rung at (z .w / 2) (z .slots * 8) (line (z .w / 2
 -- all three levels of a block are made, the last into a ring from `out` on; beside it and the rings of both ll's nothing has changed
 pub record Averaged (z : Plan) (v : Coefs) (i : Colour) (at out : ℕ) (work after : List ℤ) : Type 0 where
   pub outcomes : Outcomes z v i out 0 (planeRows (z .guarded) (z .n)) after
-  pub beside : (s m : ℕ) → Apart s m (outIn (z .w) (z .slots) at l1) (20 * unitOf z) → Apart s m out (64 * unitOf z) → part after s m ≡ part work s m
+  pub beside : (s m : ℕ) → Apart s m (outIn (z .w) (z .slots) at l1) (llUnits * unitOf z) → Apart s m out (finalUnits * unitOf z) → part after s m ≡ part work s m

@@ -1,6 +1,6 @@
 -- The rows of synthesis, from the rows that they are made of: document 01, 'Synthesis'. Sums wrap at 32 bits; shifts floor.
 use mathlib.Core.List.{List}
-use mathlib.Core.Bool.{Bool, true, cond}
+use mathlib.Core.Bool.{Bool, cond}
 use Prim.Native.Nat.{ℕ, suc, _+_, _-_, _*_, _/_, _%_, min}
 use lib.Dec.{eqb}
 use lib.IntN.{ℤ, pos}
@@ -63,10 +63,6 @@ abbrev pub liftRow : ℕ → List ℤ → List ℤ → List ℤ
 liftRow w low high = tab (2 * w) (liftAt w low high)
 
 -- ---- one row by itself: E, and the running sum of the low 16 bits
--- E goes in only in two records of a packet, 0 and `last`
-abbrev pub ends : ℕ → ℕ → Bool
-ends i last = cond (eqb i 0) true (eqb i last)
-
 abbrev pub edgeAt : Bool → List ℤ → ℕ → ℤ
 edgeAt odd l x = edgeDetail wrapping odd (at l x)
 

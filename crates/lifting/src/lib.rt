@@ -6,8 +6,7 @@ use wrap32::wrapping_sub;
 ghost use mathlib.Core.Path.{_≡_};
 ghost use Prim.Native.Nat.{_+_, _*_, _≤_};
 ghost use lib.ListN.{length};
-ghost use Rattle.lists.specs.Lists.{part, putAt};
-ghost use Rattle.lists.proofs.Put.{Clear};
+ghost use Rattle.lists.specs.Lists.{part, putAt, Clear};
 ghost use Rattle.lifting.specs.Lift.{lowStep, highStep, lowRow, highRow, endRow, liftRow, edgeRow, sumRow};
 
 // l less a quarter of (p + c + 2).

@@ -9,6 +9,7 @@ use borrow.Author.Tests.{lt-ltb, le-ltb}
 use lib.ListN.{length, set, getD, length-append, take-append-drop}
 use Rattle.lists.specs.Lists.{putAt, rows}
 use Rattle.lists.proofs.Part.{put-next}
+use Rattle.lists.proofs.Rows.{rows-same}
 use Rattle.format.proofs.BitLaws.{le-or-lt}
 use Rattle.format.specs.Strip.{Tile}
 use Rattle.strip.specs.declared.TileStream.{TileStream}
@@ -96,12 +97,8 @@ module _ (g : ℕ → List ℕ) where
   unfolding rows
   rows-on l m k a b e i p q h = let next : i + 1 ≡ suc i = omega arith in rw next (put-on l m k (rows i g) (g i) a b e p q h)
 
-rows-same : (n : ℕ) (f g : ℕ → List ℕ) → ((k : ℕ) → k < n → f k ≡ g k) → rows n f ≡ rows n g
-unfolding rows
-rows-same zero f g each = refl
-rows-same (suc n) f g each = rw (rows-same n f g (λ k h. each k (omega arith)), each n (omega arith)) refl
-
-record-fields : (n : ℕ) (ts : List Tile) (k : ℕ) (d : TileStream) → length ts ≤ n → k < length ts → streamFields (getD (records n ts) k d) ≡ fieldsAt ts k
+record-fields : (n : ℕ) (ts : List Tile) (k : ℕ) (d : TileStream) → length ts ≤ n → k < length ts
+    → streamFields (getD (records n ts) k d) ≡ fieldsAt ts k
 unfolding records fieldsAt
 record-fields zero ts k d few h = absurd (omega arith)
 record-fields (suc n) [] k d few h = absurd (omega arith)

@@ -122,8 +122,8 @@ pub fn respond(input: &[u8], out: &mut [u8; 4096]) -> usize
     if input.len() < SIDES {
         return put_bytes(out, 0, b"too short\n");
     }
-    let full_w = strip::le32(input, 0);
-    let full_h = strip::le32(input, 4);
+    let full_w = words::le32(input, 0);
+    let full_h = words::le32(input, 4);
     list_tiles(&input[SIDES..], full_w, full_h, out)
 }
 

@@ -79,7 +79,8 @@ module _ {A : Type 0} (out c pairs : ℕ) (f : ℕ → List A) (rows : (y : ℕ)
   each : (y : ℕ) → length (f (2 * y) ++ f (2 * y + 1)) ≡ 4 * c
   each y = length-append (f (2 * y)) (f (2 * y + 1)) ∙ omega (arith, rows (2 * y), rows (2 * y + 1))
 
-  pub ring-on : (from count a low : ℕ) → a ≤ low → from + count ≤ low + pairs → Rung out (2 * c) (2 * pairs) f (2 * a) (2 * from) work → Rung out (2 * c) (2 * pairs) f (2 * low) (2 * (from + count)) (laid (λ k. out + (from + k) % pairs * (4 * c)) (λ k. f (2 * (from + k)) ++ f (2 * (from + k) + 1)) work count)
+  pub ring-on : (from count a low : ℕ) → a ≤ low → from + count ≤ low + pairs → Rung out (2 * c) (2 * pairs) f (2 * a) (2 * from) work
+      → Rung out (2 * c) (2 * pairs) f (2 * low) (2 * (from + count)) (laid (λ k. out + (from + k) % pairs * (4 * c)) (λ k. f (2 * (from + k)) ++ f (2 * (from + k) + 1)) work count)
   ring-on from count a low i j h =
       pairs-rows out c pairs f rows some _ (rw long room) low (from + count)
       (rung-on out (4 * c) pairs (λ y. f (2 * y) ++ f (2 * y + 1)) each some work room a from count low (rows-paired out c pairs f work some a from h) i j)

@@ -2,25 +2,22 @@
 use mathlib.Core.Path.{_≡_, refl, sym, ap, _∙_}
 use mathlib.Core.List.{List}
 use mathlib.Core.Bool.{Bool, true, false, not}
-use Prim.Native.Nat.{ℕ, zero, suc, _+_, _*_, _≤_, _<_}
+use Prim.Native.Nat.{ℕ, zero, suc, _+_, _≤_, _<_}
 use native.Mathlib.Omega.{arith}
-use native.Mathlib.Nat.{mul-le-mul}
-use lib.ListN.{length, take, drop}
+use lib.ListN.{length}
 use lib.Dec.{leb, eqb}
 use borrow.Author.Tests.{lt-leb, eqb-true}
 use Rattle.format.specs.Sizes.{number, index}
 use Rattle.format.specs.Strip.{width, codedHeight}
 use Rattle.format.specs.Packets.{hasEntry, packetOf, kind, blocks, packetStart, packetLength}
-use Rattle.format.specs.Refusals.{_▷_, on, isDetail, directoryRefusal, tileRefusal, entryCheck, packetRefusal, refusal, refusal}
+use Rattle.format.specs.Refusals.{_▷_, on, isDetail, directoryRefusal, tileRefusal, entryCheck, packetRefusal, refusal}
 use Rattle.packets.specs.declared.Checked.{Checked}
-use Rattle.format.proofs.Accepted.{Accepted, accepted}
-use Rattle.packets.specs.Answers.{groupOf, colourOf, entered, entryOf, missing, checkedOf}
+use Rattle.format.specs.Accepted.{Accepted}
+use Rattle.format.proofs.Accepted.{accepted}
+use Rattle.packets.specs.Answers.{groupOf, colourOf, entryNumber, checkedOf}
 use Rattle.packets.specs.declared.directory.DirEntry.{DirEntry}
-use Rattle.packets.specs.declared.directory.DirEntry.the-variants.{At, Missing}
 use Rattle.format.proofs.DirectoryLaws.{inside}
-
-pub product : (a b c d : ℕ) → a ≤ b → c ≤ d → a * c ≤ b * d
-product a b c d h k = mul-le-mul h k
+use Rattle.format.proofs.TurnLaws.{on-not}
 
 -- the number of the group of a number
 pub number-of : (g : ℕ) → g < 5 → number (groupOf g) ≡ g
@@ -50,43 +47,17 @@ detail-up (suc (suc (suc (suc g)))) h = lt-leb (suc (suc (suc (suc g)))) 3 (omeg
 
 -- ---- the entry of a group
 
-abbrev startOf : DirEntry → ℕ
-startOf (At start n) = start
-startOf Missing = 0
-
-abbrev lengthOf : DirEntry → ℕ
-lengthOf (At start n) = n
-lengthOf Missing = 0
-
-entered-at : (b : Bool) (x y start n : ℕ) → entered b x y ≡ At start n → (b ≡ true) × (x ≡ start) × (y ≡ n)
-entered-at true x y start n e = (refl, ap startOf e, ap lengthOf e)
-entered-at false x y start n e = absurd (let h : 9 ≡ 0 = ap missing e in omega (arith, h))
-
-entered-missing : (b : Bool) (x y : ℕ) → missing (entered b x y) ≡ on (not b) 9
-entered-missing true x y = refl
-entered-missing false x y = refl
-
-module _ (s : List ℕ) (g k : ℕ) where
-  -- what stands in the entry that is found
-  pub entry-at : (start n : ℕ) → entryOf s g k ≡ At start n → (hasEntry s g k ≡ true) × (packetStart s g k ≡ start) × (packetLength s g k ≡ n)
-  unfolding entryOf
-  entry-at start n e = entered-at (hasEntry s g k) (packetStart s g k) (packetLength s g k) start n e
-
-  pub packet-at : (start n : ℕ) → entryOf s g k ≡ At start n → packetOf s g k ≡ take n (drop start s)
-  unfolding packetOf
-  packet-at start n e = let is = entry-at start n e in rw (is .1, is .2) refl
-
-  -- the check of an entry, by the entry
+module _ (s : List ℕ) (g k : ℕ) (r : DirEntry) (is : entryNumber r ≡ on (not (hasEntry s g k)) 9) where
+  -- the check of an entry, by the answer of the lookup
   pub entry-check : g < 5
       → entryCheck s (groupOf g) k
-      ≡ (missing (entryOf s g k) ▷ packetRefusal (packetOf s g k) ▷ tileRefusal (kind (packetOf s g k)) (blocks (packetOf s g k)) (groupOf g) (codedHeight s) (length s))
-  unfolding entryCheck entryOf
-  entry-check h = rw (number-of g h, entered-missing (hasEntry s g k) (packetStart s g k) (packetLength s g k)) refl
+      ≡ (entryNumber r ▷ packetRefusal (packetOf s g k) ▷ tileRefusal (kind (packetOf s g k)) (blocks (packetOf s g k)) (groupOf g) (codedHeight s) (length s))
+  unfolding entryCheck
+  entry-check h = rw (number-of g h, is) refl
 
-  pub found-inside : (start n : ℕ) → directoryRefusal s ≡ 0 → g < 5 → entryOf s g k ≡ At start n → start + n ≤ length s
-  found-inside start n good h e =
-      let is = entry-at start n e in
-      omega (arith, is .1, is .2, inside s g k good h (is .0))
+  -- the packet of an entry that is there lies within the stream
+  pub found-inside : directoryRefusal s ≡ 0 → g < 5 → entryNumber r ≡ 0 → packetStart s g k + packetLength s g k ≤ length s
+  found-inside good h none = inside s g k good h (on-not (hasEntry s g k) 8 (sym is ∙ none))
 
 -- ---- the answer of the check
 

@@ -4,11 +4,11 @@ use mathlib.Core.Bool.{Bool, true, false, cond}
 use Prim.Native.Nat.{ℕ, zero, suc}
 use Rattle.format.specs.Sizes.{Colour, green, red, blue, l1, l2, l3, Group, base, detail, final}
 use Rattle.format.specs.Strip.{width, codedHeight}
-use Rattle.format.specs.Packets.{packetStart, packetLength, hasEntry}
+use Rattle.format.specs.Packets.{hasEntry}
 use Rattle.format.specs.Tile.{accepted}
 use Rattle.packets.specs.declared.Checked.{Checked}
 use Rattle.packets.specs.declared.directory.DirEntry.{DirEntry}
-use Rattle.packets.specs.declared.directory.DirEntry.the-variants.{At, Missing}
+use Rattle.packets.specs.declared.directory.DirEntry.the-variants.{Present, Missing}
 
 -- the group and the colour of a number
 abbrev pub groupOf : ℕ → Group
@@ -23,17 +23,18 @@ colourOf zero = green
 colourOf (suc zero) = red
 colourOf (suc (suc n)) = blue
 
--- entry k of group g; 9 where it is missing
-abbrev pub entered : Bool → ℕ → ℕ → DirEntry
-entered true start n = At start n
-entered false start n = Missing
+-- whether group g has an entry k
+abbrev pub entered : Bool → DirEntry
+entered true = Present
+entered false = Missing
 
 unfoldable pub entryOf : List ℕ → ℕ → ℕ → DirEntry
-entryOf s g k = entered (hasEntry s g k) (packetStart s g k) (packetLength s g k)
+entryOf s g k = entered (hasEntry s g k)
 
-abbrev pub missing : DirEntry → ℕ
-missing (At start n) = 0
-missing Missing = 9
+-- the number of each answer: no refusal, or 9, no entry
+abbrev pub entryNumber : DirEntry → ℕ
+entryNumber Present = 0
+entryNumber Missing = 9
 
 -- the answer: a refusal with every other field 0; the coded size where there is none
 unfoldable pub checkedOf : List ℕ → ℕ → Checked

@@ -1,17 +1,18 @@
 // The directory of a stream: document 01, 'Directory and packets'.
 ghost use mathlib.Core.Path.{_≡_};
 ghost use Prim.Native.Nat.{_+_, _*_, _^_, _<_, _≤_};
+ghost use mathlib.Core.Bool.{not};
 ghost use lib.ListN.{length};
-ghost use Rattle.format.specs.Packets.{sum, entryCount, blockSize, lengthPlace, entryLength, blockAt, groupStart, packetStart, packetLength};
-ghost use Rattle.format.specs.Refusals.{each, entryRefusal, groupRefusal, directoryRefusal};
-ghost use Rattle.packets.specs.Answers.{entryOf};
+ghost use Rattle.format.specs.Packets.{sum, entryCount, blockSize, lengthPlace, entryLength, blockAt, groupStart, packetStart, packetLength, hasEntry};
+ghost use Rattle.format.specs.Refusals.{on, each, entryRefusal, groupRefusal, directoryRefusal};
+ghost use Rattle.packets.specs.Answers.{entryOf, entryNumber};
+use fields::group_size;
 use strip::TileStream;
-use strip::group_size;
 use words::field;
 
-// Where an entry's packet starts in the stream, and its length.
+// Whether a group has an entry; a missing one is refusal 9.
 pub enum DirEntry {
-    At(usize, usize),
+    Present,
     Missing,
 }
 
@@ -110,20 +111,18 @@ pub fn packet_length(stream: &[u8], group: usize, index: usize) -> usize
     entry_length(stream, block_at(stream, group), index)
 }
 
-// An entry of a group, if the group has it.
+// Look an entry of a group up.
 pub fn find_entry(stream: &[u8], group: usize, index: usize) -> DirEntry
     requires { ⌜ (128 ≤ length (now stream)) × (group < 5) × (index < 16) ⌝ }
     ensures { λ r. ⌜ r ≡ entryOf (now (stream .entry)) group index ⌝ }
+    ensures { λ r. ⌜ entryNumber r ≡ on (not (hasEntry (now (stream .entry)) group index)) 9 ⌝ }
 {
     let at = block_at(stream, group);
     let count = entry_count(stream, at);
     if count <= index {
         return DirEntry::Missing;
     }
-    DirEntry::At(
-        packet_start(stream, group, index),
-        packet_length(stream, group, index),
-    )
+    DirEntry::Present
 }
 
 // Each of the first packets of a group lies within the stream.

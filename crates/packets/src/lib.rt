@@ -1,17 +1,23 @@
 // The checks of a stream, which write nothing: document 01, 'Refusals by place of check'. Every refusal is found here.
 ghost use mathlib.Core.Path.{_≡_};
 ghost use mathlib.Core.Bool.{not, _&&_};
-ghost use Prim.Native.Nat.{_+_, _*_, _^_, _<_, _≤_};
-ghost use lib.ListN.{length, take, drop};
+ghost use Prim.Native.Nat.{_+_, _^_, _<_, _≤_};
+ghost use lib.ListN.{length};
 ghost use lib.Dec.{eqb};
-ghost use Rattle.format.specs.Sizes.{planeRowsOf};
-ghost use Rattle.format.specs.Strip.{codedHeight};
 ghost use Rattle.format.specs.Packets.{packetStart, packetLength, packetOf};
 ghost use Rattle.format.specs.Refusals.{isDetail, wrongCount, tileRefusal, directoryRefusal, entryCheck, planeRefusal, packetsRefusal, lentRefusal, refusal};
 ghost use Rattle.packets.specs.Answers.{groupOf, colourOf, checkedOf};
+use fields::blocks;
+use fields::coded_height;
+use fields::colour_size;
+use fields::green_size;
+use fields::guarded;
+use fields::kind;
+use fields::stripes;
+use fields::width;
+use fields::work_length;
 use strip::StreamHeader;
 use strip::parse_stream_header;
-use words::field;
 
 mod directory;
 mod records;
@@ -31,28 +37,9 @@ pub fn packet(stream: &[u8], group: usize, index: usize) -> &[u8]
     requires { ⌜ (128 ≤ length (now stream)) × (group < 5) × (index < 16) × (packetStart (now stream) group index + packetLength (now stream) group index ≤ length (now stream)) ⌝ }
     ensures { λ r. ⌜ now r ≡ packetOf (now (stream .entry)) group index ⌝ }
 {
-    part(
-        stream,
-        directory::packet_start(stream, group, index),
-        directory::packet_length(stream, group, index),
-    )
-}
-
-// n bytes of the stream from a start on.
-fn part(stream: &[u8], start: usize, n: usize) -> &[u8]
-    requires { ⌜ start + n ≤ length (now stream) ⌝ }
-    ensures { λ r. ⌜ now r ≡ take n (drop start (now (stream .entry))) ⌝ }
-{
-    let end = start + n;
+    let start = directory::packet_start(stream, group, index);
+    let end = start + directory::packet_length(stream, group, index);
     &stream[start..end]
-}
-
-// The coded height: twice the half height.
-fn coded_height(stream: &[u8]) -> usize
-    requires { ⌜ 128 ≤ length (now stream) ⌝ }
-    ensures { λ r. ⌜ (r ≡ codedHeight (now (stream .entry))) × (r < 2 ^ 17) ⌝ }
-{
-    field(stream, 80, 16) * 2
 }
 
 // Groups 1 to 3.
@@ -90,13 +77,11 @@ fn wrong_count(height: usize, count: usize) -> bool
     requires { ⌜ height < 2 ^ 17 ⌝ }
     ensures { λ r. ⌜ r ≡ wrongCount height count ⌝ }
 {
-    let n = (height + 15) / 16;
-    let most = n + 1;
-    let rest = height % 16;
-    if count == most {
+    let n = stripes(height);
+    if count == n + 1 {
         return false;
     }
-    if rest == 0 {
+    if !guarded(height) {
         return true;
     }
     count != n
@@ -130,17 +115,17 @@ fn check_entry(stream: &[u8], group: usize, index: usize) -> u32
     requires { ⌜ (128 ≤ length (now stream)) × (group < 5) × (index < 16) × (directoryRefusal (now stream) ≡ 0) ⌝ }
     ensures { λ r. ⌜ r ≡ entryCheck (now (stream .entry)) (groupOf group) index ⌝ }
 {
-    let directory::DirEntry::At(start, n) = directory::find_entry(stream, group, index) else {
+    let directory::DirEntry::Present = directory::find_entry(stream, group, index) else {
         return 9;
     };
-    let found = part(stream, start, n);
+    let found = packet(stream, group, index);
     let bad = records::parse_packet(found);
     if bad != 0 {
         return bad;
     }
     check_in_tile(
-        field(found, 48, 2),
-        field(found, 56, 16),
+        kind(found),
+        blocks(found),
         group,
         coded_height(stream),
         stream.len(),
@@ -190,37 +175,26 @@ fn check_packets(stream: &[u8]) -> u32
     check_entry(stream, 4, 0)
 }
 
-// The rows of the planes.
-pub fn plane_rows(height: usize) -> usize
-    requires { ⌜ height < 2 ^ 17 ⌝ }
-    ensures { λ r. ⌜ (r ≡ planeRowsOf height) × (r < 2 ^ 17) ⌝ }
-{
-    let n = (height + 15) / 16;
-    let rest = height % 16;
-    if rest == 0 { 8 * n } else { 8 * n - 4 }
-}
-
 // The size of the planes, and the lengths of the lent slices.
 fn check_lent(w: usize, height: usize, green: usize, red: usize, blue: usize, work: usize) -> u32
     requires { ⌜ (w < 2 ^ 16) × (height < 2 ^ 17) ⌝ }
     ensures { λ r. ⌜ r ≡ lentRefusal w height green red blue work ⌝ }
 {
-    let n = plane_rows(height);
-    let full = n * w;
+    let full = green_size(w, height);
     if MAX_PLANE_SAMPLES < full {
         return 3;
     }
     if green < full {
         return 4;
     }
-    let half = n * (w / 2);
+    let half = colour_size(w, height);
     if red < half {
         return 4;
     }
     if blue < half {
         return 4;
     }
-    if work < 16 * ((height + 15) / 16 + 1) * w {
+    if work < work_length(w, height) {
         return 4;
     }
     0
@@ -258,7 +232,7 @@ pub fn check(stream: &[u8], green: usize, red: usize, blue: usize, work: usize) 
     }
     Checked {
         refusal: 0,
-        width: field(stream, 64, 16),
+        width: width(stream),
         height: coded_height(stream),
     }
 }

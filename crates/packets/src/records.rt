@@ -4,41 +4,53 @@ ghost use Prim.Native.Nat.{_+_, _*_, _^_, _<_, _≤_};
 ghost use mathlib.Core.Bool.{not, _||_};
 ghost use lib.ListN.{length};
 ghost use lib.Dec.{ltb, eqb};
-ghost use Rattle.format.specs.Packets.{tag, zero4, zero6, blocks, marker, zero8, sizeOf};
+ghost use Rattle.format.specs.Packets.{tag, zero4, kind, zero6, blocks, marker, zero8};
 ghost use Rattle.format.specs.Refusals.{each, recordRefusal, packetRefusal};
-use words::field;
+use fields::blocks;
+use fields::first_payload;
+use fields::kind;
+use fields::marker;
+use fields::padding;
+use fields::record_bit;
+use fields::record_length;
+use fields::size_of;
+use fields::tag;
+use fields::zero4;
+use fields::zero6;
+use fields::zero8;
 
 // Tag not 4, or one of the zeros after it not 0.
 fn wrong_tag(packet: &[u8]) -> bool
     requires { ⌜ 16 ≤ length (now packet) ⌝ }
     ensures { λ r. ⌜ r ≡ (not (eqb (tag (now (packet .entry))) 4) || not (eqb (zero4 (now (packet .entry))) 0) || not (eqb (zero6 (now (packet .entry))) 0)) ⌝ }
 {
-    let tag = field(packet, 40, 4);
-    if tag != 4 {
+    if tag(packet) != 4 {
         return true;
     }
-    let zero4 = field(packet, 44, 4);
-    if zero4 != 0 {
+    if zero4(packet) != 0 {
         return true;
     }
-    let zero6 = field(packet, 50, 6);
-    zero6 != 0
+    zero6(packet) != 0
 }
 
 // Kinds are 1 and 3.
-fn known_kind(kind: usize) -> bool
-    ensures { λ r. ⌜ r ≡ (eqb kind 1 || eqb kind 3) ⌝ }
+fn known_kind(packet: &[u8]) -> bool
+    requires { ⌜ 16 ≤ length (now packet) ⌝ }
+    ensures { λ r. ⌜ r ≡ (eqb (kind (now (packet .entry))) 1 || eqb (kind (now (packet .entry))) 3) ⌝ }
 {
-    if kind == 1 {
+    let components = kind(packet);
+    if components == 1 {
         return true;
     }
-    kind == 3
+    components == 3
 }
 
 // A block count of 0 or above 30,000.
-fn wrong_blocks(count: usize) -> bool
-    ensures { λ r. ⌜ r ≡ (eqb count 0 || ltb 30000 count) ⌝ }
+fn wrong_blocks(packet: &[u8]) -> bool
+    requires { ⌜ 16 ≤ length (now packet) ⌝ }
+    ensures { λ r. ⌜ r ≡ (eqb (blocks (now (packet .entry))) 0 || ltb 30000 (blocks (now (packet .entry)))) ⌝ }
 {
+    let count = blocks(packet);
     if count == 0 {
         return true;
     }
@@ -50,28 +62,10 @@ fn wrong_marker(packet: &[u8]) -> bool
     requires { ⌜ 16 ≤ length (now packet) ⌝ }
     ensures { λ r. ⌜ r ≡ (not (eqb (marker (now (packet .entry))) 16) || not (eqb (zero8 (now (packet .entry))) 0)) ⌝ }
 {
-    let marker = field(packet, 72, 8);
-    if marker != 16 {
+    if marker(packet) != 16 {
         return true;
     }
-    let zero8 = field(packet, 80, 8);
-    zero8 != 0
-}
-
-// The size that the header gives, in bytes.
-fn size_of(packet: &[u8]) -> usize
-    requires { ⌜ 16 ≤ length (now packet) ⌝ }
-    ensures { λ r. ⌜ (r ≡ sizeOf (now (packet .entry))) × (r < 2 ^ 29) ⌝ }
-{
-    (field(packet, 0, 16) + 1 + field(packet, 16, 24)) * 16
-}
-
-// The bit at which the header of record i starts, of a packet of a kind.
-fn record_bit(kind: usize, i: usize) -> usize
-    requires { ⌜ (kind < 4) × (i ≤ 2 ^ 16) ⌝ }
-    ensures { λ r. ⌜ (r ≡ 128 + (16 + 4 * kind) * i) × (r < 2 ^ 32) ⌝ }
-{
-    128 + (16 + 4 * kind) * i
+    zero8(packet) != 0
 }
 
 // Each record's header bits and bytes lie within the packet.
@@ -79,15 +73,14 @@ fn check_records(packet: &[u8]) -> u32
     requires { ⌜ (16 ≤ length (now packet)) × (length (now packet) < 2 ^ 29) ⌝ }
     ensures { λ r. ⌜ r ≡ each (recordRefusal (now (packet .entry))) (blocks (now (packet .entry))) ⌝ }
 {
-    let kind = field(packet, 48, 2);
-    let count = field(packet, 56, 16);
-    let mut at = (field(packet, 0, 16) + 1) * 16;
+    let count = blocks(packet);
+    let mut at = first_payload(packet);
     let mut i = 0;
     while i < count {
-        if packet.len() * 8 < record_bit(kind, i + 1) {
+        if packet.len() * 8 < record_bit(packet, i + 1) {
             return 11;
         }
-        let n = field(packet, record_bit(kind, i), 16);
+        let n = record_length(packet, i);
         if packet.len() < at + n {
             return 18;
         }
@@ -104,17 +97,16 @@ pub fn parse_packet(packet: &[u8]) -> u32
     if packet.len() < 16 {
         return 10;
     }
-    let padding = field(packet, 88, 40);
-    if padding != 0 {
+    if padding(packet) != 0 {
         return 12;
     }
     if wrong_tag(packet) {
         return 13;
     }
-    if !known_kind(field(packet, 48, 2)) {
+    if !known_kind(packet) {
         return 14;
     }
-    if wrong_blocks(field(packet, 56, 16)) {
+    if wrong_blocks(packet) {
         return 15;
     }
     if wrong_marker(packet) {

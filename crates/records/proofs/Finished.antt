@@ -16,7 +16,8 @@ use Rattle.lists.specs.Lists.{part}
 use Rattle.lists.proofs.Tab.{length-tab, length-put, tab-same, tab-part, getD-part}
 use Rattle.lists.proofs.Put.{put-start}
 use Rattle.lists.proofs.Part.{part-put-within, part-put-below, part-put-above}
-use Rattle.lifting.specs.Lift.{edgeAt, edgeRow, sumAt, sumRow, ends}
+use Rattle.format.specs.Table.{ends}
+use Rattle.lifting.specs.Lift.{edgeAt, edgeRow, sumAt, sumRow}
 use Rattle.records.specs.Finished.{edged, edgedRows, finishedBy}
 use Rattle.records.specs.declared.Finish.{Finish}
 

@@ -6,7 +6,8 @@ use lib.Dec.{ltb}
 use lib.IntN.{ℤ}
 use lib.ListN.{length}
 use Rattle.lists.specs.Lists.{part, putAt}
-use Rattle.lifting.specs.Lift.{edgeRow, ends, sumRow}
+use Rattle.format.specs.Table.{ends}
+use Rattle.lifting.specs.Lift.{edgeRow, sumRow}
 use Rattle.records.specs.declared.Finish.{Finish}
 
 -- row j of record i gets E

@@ -1,7 +1,7 @@
 -- A slice that is filled from the front. Assumes nothing.
 use mathlib.Core.Path.{_≡_, sym, ap, _∙_}
 use mathlib.Core.Logic.{⊎-elim}
-use mathlib.Core.List.{List, [], _∷_, _++_, append-assoc, append-nil}
+use mathlib.Core.List.{List, _∷_, _++_, append-assoc}
 use Prim.Native.Nat.{ℕ, zero, suc, _+_, _≤_, _<_}
 use native.Mathlib.Omega.{arith}
 use native.Mathlib.Numerals.{add-one}
@@ -10,6 +10,7 @@ use lib.IntN.{ℤ, pos}
 use lib.ListN.{length, set, getD, replicate, length-set, length-replicate, getD-replicate, List·getD-eq-default}
 use lib.Seq.{take-all, take-length, take-append-le, take-suc-set, set-out, set-getD, getD-set-other}
 use Rattle.format.proofs.BitLaws.{le-or-lt}
+use Rattle.format.specs.Coefficients.{zeros}
 use Rattle.rows.specs.Course.{filled, Clean}
 
 -- nothing is left to fill
@@ -17,16 +18,12 @@ pub filled-past : (d : List ℤ) (i : ℕ) (l : List ℤ) → length d ≤ i →
 filled-past d i l h = rw (take-all i d h) (take-append-le (length d) d l (omega arith) ∙ take-length d)
 
 -- a store at the place that is filled next
-pub filled-set : (d : List ℤ) (i : ℕ) (v : ℤ) (l : List ℤ) → filled (set d i v) (i + 1) l ≡ filled d i (v ∷ l)
+filled-set : (d : List ℤ) (i : ℕ) (v : ℤ) (l : List ℤ) → filled (set d i v) (i + 1) l ≡ filled d i (v ∷ l)
 filled-set d i v l =
     ⊎-elim
     (λ (h : length d ≤ i). ap (λ (e : List ℤ). filled e (i + 1) l) (set-out d i v h) ∙ filled-past d (i + 1) l (omega arith) ∙ sym (filled-past d i (v ∷ l) h))
     (λ (h : i < length d). simp (length-set, add-one, take-suc-set d i v h, append-assoc))
     (le-or-lt (length d) i)
-
--- zeros, one by one
-pub zeros-next : (n m : ℕ) (l : List ℤ) → n ≡ suc m → replicate n (pos 0) ++ l ≡ pos 0 ∷ (replicate m (pos 0) ++ l)
-zeros-next n m l e = ap (λ (k : ℕ). replicate k (pos 0) ++ l) e
 
 -- four stores
 pub filled-four : (d : List ℤ) (i : ℕ) (a b c e : ℤ) (l : List ℤ)
@@ -65,12 +62,10 @@ clean-four d i a b c e clean j h =
     ∙ getD-set-other d1 (i + 1) j b (pos 0) (λ q. omega arith) ∙ getD-set-other d i j a (pos 0) (λ q. omega arith) ∙ clean j (omega arith)
 
 -- a slice that is cleared whole
-pub clean-all : (d₀ d : List ℤ) (n : ℕ) → n ≡ length d₀ → length d ≡ length d₀ → filled d (0 + n) [] ≡ filled d₀ 0 (replicate n (pos 0) ++ []) → Clean d 0
-clean-all d₀ d n en len e j h =
-    let same : d ≡ replicate n (pos 0) =
-    sym (filled-past d (0 + n) [] (omega arith)) ∙ e ∙ ap (λ (l : List ℤ). filled d₀ 0 l) (append-nil (replicate n (pos 0)))
-    ∙ take-all (length d₀) (replicate n (pos 0)) (omega (arith, length-replicate n (pos 0))) in
+pub clean-all : (d : List ℤ) (n : ℕ) → d ≡ zeros n → Clean d 0
+clean-all d n e j h =
+    let len : length d ≡ n = ap length e ∙ length-replicate n (pos 0) in
     ⊎-elim
     (λ (past : n ≤ j). List·getD-eq-default d (pos 0) {n = j} (omega arith))
-    (λ (before : j < n). ap (λ (l : List ℤ). getD l j (pos 0)) same ∙ getD-replicate n j (pos 0) (pos 0) before)
+    (λ (before : j < n). ap (λ (l : List ℤ). getD l j (pos 0)) e ∙ getD-replicate n j (pos 0) (pos 0) before)
     (le-or-lt n j)

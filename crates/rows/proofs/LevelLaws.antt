@@ -8,8 +8,9 @@ use lib.Dec.{T}
 use lib.IntN.{ℤ, pos, negsuc, natAbs}
 use lib.Signed.{ltZ, leZ, nonNeg}
 use mir.Syntax.{w64}
-use mir.Val.{toZ}
+use mir.Val.{SFits, toZ, ofZ}
 use mir.ValLaws.{toZ-pos}
+use mir.Facts.{toZ-ofZ}
 use Rattle.rows.specs.Word.{levelOf}
 
 -- what is not below 0 is its own level
@@ -21,6 +22,10 @@ level-pos (suc n) = simp (lt-leb (suc n) 0 (omega arith))
 -- so is a width that is read as a signed number
 pub level-wide : (w : ℕ) → w < 2 ^ 63 → w ≡ levelOf (toZ w64 w)
 level-wide w h = sym (ap levelOf (toZ-pos w64 w h) ∙ level-pos w)
+
+-- a signed number keeps its level in a word
+pub level-kept : {y : ℤ} → SFits w64 y → levelOf y ≡ levelOf (toZ w64 (ofZ w64 y))
+level-kept f = sym (ap levelOf (toZ-ofZ f))
 
 -- what is not above 0 is at level 0, and all else at its magnitude
 pub level-none : (y : ℤ) → leZ y (pos 0) ≡ true → levelOf y ≡ 0

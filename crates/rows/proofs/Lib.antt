@@ -7,5 +7,4 @@ pub mod SignWord
 pub mod Steps
 pub mod StretchLaws
 pub mod UpdateTable
-pub mod WidthChange
 pub mod WordLaws

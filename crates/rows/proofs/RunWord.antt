@@ -82,7 +82,7 @@ module _ (s : List ℕ) (r : Reader) (word g : ℕ) (fits : word < 2 ^ 64) (hold
     one : bitAt s (r .place + z) ≡ 1
     one = lead-one s (r .place) word z 57 fits holds (lit≤ tt) lead (omega arith)
 
-    pub value-bits : v ≡ 2 ^ z + bitsAt s (r .place + (z + 1)) z
+    value-bits : v ≡ 2 ^ z + bitsAt s (r .place + (z + 1)) z
     unfolding bitsAt
     value-bits =
         let cut : 63 - z ≡ 64 - (1 + z) = omega arith in

@@ -40,7 +40,7 @@ module _ (s : List ℕ) (r : Reader) (word : ℕ) (is : word ≡ bitsAt s (r .pl
       let remaining : r .remaining - u - 1 ≡ r .remaining - (u + 1) = omega arith in
       simp (le-leb 1 (r .remaining - u) (omega arith), place, remaining, is, bit-of s (r .place) u h)
 
-  pub sign-step : (z : ℤ) (u : ℕ) → u < 4 → Same r (signBitOf z word u) (signOf s z (skipped r u))
+  sign-step : (z : ℤ) (u : ℕ) → u < 4 → Same r (signBitOf z word u) (signOf s z (skipped r u))
   unfolding signOf signBitOf
   sign-step z u h = by-cases r (ltZ (pos 0) z) _ _ _ _ (simp (one-read u h), simp (one-read u h)) (refl, refl)
 

@@ -15,20 +15,21 @@ use mir.ValLaws.{toZ-pos}
 use Rattle.wrap32.specs.Cut.{low, cut, wrap}
 use Rattle.wrap32.specs.Edge.{signOf}
 use Rattle.wrap32.proofs.Laws.{of-cond, cut-id, cut-add-l, low-neg32, less-some, odd-bit}
+use Rattle.rows.specs.declared.Quad.{Quad}
 use Rattle.rows.specs.Word.{scaledOf, signedOf, splitOf, quadOf}
 use Rattle.rows.specs.Stretch.{stretchOf, stretchQuad}
 use Rattle.rows.proofs.WordLaws.{short, front-lt, scaled-zero, scaled-none, scaled-some, signed-none, signed-fits}
 
-pub stretch-plain : (x : ℤ) → stretchOf 0 x ≡ x
+stretch-plain : (x : ℤ) → stretchOf 0 x ≡ x
 unfolding stretchOf
 stretch-plain x = refl
 
-pub stretch-some : (sel : ℕ) (x : ℤ) → 0 < sel → stretchOf sel x ≡ wrap (x *ℤ pos (2 ^ sel) +ℤ signOf x *ℤ pos (2 ^ (sel - 1) - natAbs x % 2))
+stretch-some : (sel : ℕ) (x : ℤ) → 0 < sel → stretchOf sel x ≡ wrap (x *ℤ pos (2 ^ sel) +ℤ signOf x *ℤ pos (2 ^ (sel - 1) - natAbs x % 2))
 unfolding stretchOf
 stretch-some sel x h = simp (ne-eqb sel 0 (λ z. omega arith))
 
 -- 0 stays
-pub stretch-zero : (sel : ℕ) → stretchOf sel (pos 0) ≡ pos 0
+stretch-zero : (sel : ℕ) → stretchOf sel (pos 0) ≡ pos 0
 unfolding stretchOf
 stretch-zero sel =
     let none : 0 * 2 ^ sel + 0 * (2 ^ (sel - 1) - 0) ≡ 0 = omega arith in
@@ -54,13 +55,18 @@ module _ (n sel : ℕ) (h : 0 < sel) where
   stretch-nonzero bit = stretch-sign (eqb bit 0)
 
 -- a short value with its sign
-pub stretch-signed : (u sel bit : ℕ) → u < 2 ^ 12 → sel < 16 → stretchOf sel (signedOf u bit) ≡ signedOf (scaledOf u sel) bit
+stretch-signed : (u sel bit : ℕ) → u < 2 ^ 12 → sel < 16 → stretchOf sel (signedOf u bit) ≡ signedOf (scaledOf u sel) bit
 stretch-signed zero sel bit small h =
     ap (stretchOf sel) (signed-none 0 bit refl) ∙ stretch-zero sel ∙ sym (signed-none 0 bit refl) ∙ ap (λ (m : ℕ). signedOf m bit) (sym (scaled-none 0 sel refl))
 stretch-signed (suc n) zero bit small h = stretch-plain (signedOf (suc n) bit) ∙ ap (λ (m : ℕ). signedOf m bit) (sym (scaled-zero (suc n)))
 stretch-signed (suc n) (suc k) bit small h =
     let v = scaledOf (suc n) (suc k) in
     stretch-nonzero n (suc k) (omega arith) bit ∙ cut-id w32 (signedOf v bit) (signed-fits v bit (short (suc n) (suc k) small h .bound))
+
+-- selector 0 changes nothing
+pub stretch-none : (q : Quad) → q ≡ stretchQuad 0 q
+unfolding stretchOf
+stretch-none q = refl
 
 -- four of them
 pub stretch-quad : (sel word w n : ℕ) → sel < 16 → word < 2 ^ 64 → w ≤ 12 → stretchQuad sel (quadOf 0 word w n) ≡ quadOf sel word w n

@@ -3,19 +3,20 @@ use borrow.Author.Tests.{eq-eqb, ne-eqb, lt-ltb, le-ltb, le-leb, lt-leb}
 use mathlib.Core.Path.{_≡_, refl, sym, ap, _∙_}
 use mathlib.Core.Bool.{Bool, true, false, cond}
 use mathlib.Core.Logic.{⊎-elim}
-use Prim.Native.Nat.{ℕ, zero, suc, _+_, _-_, _*_, _/_, _%_, _^_, _<_, _≤_}
+use Prim.Native.Nat.{ℕ, zero, suc, _+_, _-_, _*_, _/_, _%_, _^_, _<_, _≤_, min}
 use native.Mathlib.Omega.{arith}
 use lib.Count.{leadingZeros, leading-le, leading-of-zero, leading-top, leading-length, leading-unique}
 use lib.Dec.{ltb, eqb}
-use lib.IntN.{ℤ, pos, negℤ, _+ℤ_}
+use lib.IntN.{ℤ, pos, negℤ, _+ℤ_, _-ℤ_}
 use lib.Pow.{pow-add, pow-mono}
 use lib.Signed.{leZ, mag}
 use mir.Syntax.{w8, w64}
 use mir.Val.{SFits}
-use Rattle.wrap32.proofs.Laws.{less-some, mag-add}
+use Rattle.wrap32.proofs.Laws.{of-cond, less-some, less-none, mag-add}
 use Rattle.format.proofs.BitLaws.{le-or-lt}
-use Rattle.rows.specs.Word.{changeOf, levelOf, moveOf, lengthOf}
-use Rattle.rows.proofs.WidthChange.{less-low, change-moved}
+use Rattle.bits.specs.declared.Change.{Change}
+use Rattle.bits.specs.View.{changeOf}
+use Rattle.rows.specs.Word.{levelOf, moveOf, lengthOf}
 
 -- a move by no more than four
 few : (s t : Bool) (d : ℕ) → d ≤ 4 → mag (cond s (pos 0) (cond t (pos d) (negℤ (pos d)))) ≤ 4
@@ -35,16 +36,59 @@ pub level-fits : (w k : ℕ) → w ≤ 12 → SFits w64 (pos w +ℤ moveOf k)
 level-fits w k h = record { sfits = omega (arith, mag-add (pos w) (moveOf k) 13 (2 ^ 7) (omega arith) (move-fits k .sfits)) }
 
 -- a width that an update gives
-few-more : (a b : Bool) (w z : ℕ) → cond a w (w + cond b z 0 - cond b 0 z) ≤ w + z
-few-more true b w z = omega arith
-few-more false true w z = omega arith
-few-more false false w z = omega arith
-
 pub change-few : (t w : ℕ) → changeOf t w .width ≤ w + 65
 unfolding changeOf
 change-few t w =
-    let z = leadingZeros 64 (t * 2 ^ 2 % 2 ^ 64) in
-    omega (arith, few-more (ltb t (2 ^ 63)) (ltb t (2 ^ 63 + 2 ^ 62)) w (z + 1), leading-le 64 (t * 2 ^ 2 % 2 ^ 64))
+    let z = leading-le 64 (t * 2 ^ 2 % 2 ^ 64) in
+    of-cond (λ (c : Change). c .width ≤ w + 65) (ltb t (2 ^ 63)) _ _ (λ _. omega arith)
+    (λ _. of-cond (λ (c : Change). c .width ≤ w + 65) (ltb t (2 ^ 63 + 2 ^ 62)) _ _ (λ _. omega arith) (λ _. omega arith))
+
+-- a number less one that is no smaller is not above 0
+pub less-low : (w d : ℕ) → w ≤ d → leZ (pos w -ℤ pos d) (pos 0) ≡ true
+less-low w d h =
+    ⊎-elim (λ (le : d ≤ w). simp (less-some w d le) (le-leb (w - d) 0 (omega arith))) (λ (lt : w < d). simp (less-none w d lt)) (le-or-lt d w)
+
+-- a width update out of a word, by the width moved below 0 too
+module _ (word w d : ℕ) (fits : word < 2 ^ 64) (one : 1 ≤ w) (count : d ≡ leadingZeros 64 (word * 2 ^ 2 % 2 ^ 64) + 1) where
+  abbrev z : ℕ
+  z = leadingZeros 64 (word * 2 ^ 2 % 2 ^ 64)
+
+  abbrev target : ℤ
+  target = pos w +ℤ cond (eqb (word / 2 ^ 62 % 2) 0) (pos d) (negℤ (pos d))
+
+  abbrev reckoned : Change
+  reckoned =
+      record {
+        width = cond (ltb word (2 ^ 63)) w (levelOf target);
+        used = cond (ltb word (2 ^ 63)) 0 (cond (leZ target (pos 0)) w (d + 1)) + 1;
+      }
+
+  pub change-moved : reckoned ≡ changeOf word w
+  unfolding changeOf levelOf
+  change-moved =
+      ⊎-elim
+      (λ (high : 2 ^ 63 ≤ word).
+      ⊎-elim
+      (λ (down : 2 ^ 63 + 2 ^ 62 ≤ word).
+      let bit = ne-eqb (word / 2 ^ 62 % 2) 0 (λ e. omega arith) in
+      ⊎-elim
+      (λ (none : w ≤ d).
+      let left : w - (z + 1) ≡ 0 = omega arith in
+      let few : min (z + 1) (w - 1) + 2 ≡ w + 1 = omega arith in
+      simp (le-ltb word (2 ^ 63) high, le-ltb word (2 ^ 63 + 2 ^ 62) down, bit, less-low w d none, left, few))
+      (λ (some : d < w).
+      let left : w - (z + 1) ≡ w - d = omega arith in
+      let few : min (z + 1) (w - 1) + 2 ≡ d + 1 + 1 = omega arith in
+      simp (le-ltb word (2 ^ 63) high, le-ltb word (2 ^ 63 + 2 ^ 62) down, bit, less-some w d (omega arith), lt-leb (w - d) 0 (omega arith), left, few))
+      (le-or-lt w d))
+      (λ (up : word < 2 ^ 63 + 2 ^ 62).
+      let bit = eq-eqb (word / 2 ^ 62 % 2) 0 (omega arith) in
+      let more : w + z + 1 ≡ w + d = omega arith in
+      let all : z + 3 ≡ d + 1 + 1 = omega arith in
+      simp (le-ltb word (2 ^ 63) high, lt-ltb word (2 ^ 63 + 2 ^ 62) up, bit, lt-leb (w + d) 0 (omega arith), more, all))
+      (le-or-lt (2 ^ 63 + 2 ^ 62) word))
+      (λ (keep : word < 2 ^ 63). simp (lt-ltb word (2 ^ 63) keep))
+      (le-or-lt (2 ^ 63) word)
 
 -- the leading zeros of a word are those of its first three bits, where one of them is set
 lead-first : (u : ℕ) → 0 < u / 2 ^ 61 → u < 2 ^ 64 → leadingZeros 64 u ≡ leadingZeros 3 (u / 2 ^ 61)
@@ -65,7 +109,7 @@ one-more true x y = refl
 one-more false x y = omega arith
 
 -- a word t, by whose first five bits the tables move a width w
-module _ (t w : ℕ) (fits : t < 2 ^ 64) where
+module _ (t w : ℕ) (fits : t < 2 ^ 64) (one : 1 ≤ w) where
   abbrev first : ℕ
   first = t / 2 ^ 59
 
@@ -91,9 +135,9 @@ module _ (t w : ℕ) (fits : t < 2 ^ 64) where
   kept : t < 2 ^ 63 → Same
   unfolding levelOf moveOf lengthOf
   kept low =
-      rw (← (change-moved t w (zeros + 1) fits refl))
+      rw (← (change-moved t w (zeros + 1) fits one refl))
       (simp (lt-ltb t (2 ^ 63) low, lt-ltb first 16 (omega arith))
-      (⊎-elim (λ (none : w ≤ 0). simp (le-leb (w + 0) 0 (omega arith)) (omega arith)) (λ (some : 0 < w). simp (lt-leb (w + 0) 0 (omega arith)) (omega arith)) (le-or-lt w 0)))
+      (simp (lt-leb (w + 0) 0 (omega arith)) (omega arith)))
 
   -- '10' goes up and '11' down
   bit-one : 2 ^ 63 + 2 ^ 62 ≤ t → eqb (t / 2 ^ 62 % 2) 0 ≡ false
@@ -117,7 +161,7 @@ module _ (t w : ℕ) (fits : t < 2 ^ 64) where
   unfolding lengthOf
   short high some =
       let lead : zeros ≡ zeros3 = lead-first (t * 2 ^ 2 % 2 ^ 64) (omega arith) (omega arith) ∙ ap (leadingZeros 3) (omega arith) in
-      rw (← (change-moved t w (zeros + 1) fits refl))
+      rw (← (change-moved t w (zeros + 1) fits one refl))
       (simp (le-ltb t (2 ^ 63) high, le-ltb first 16 (omega arith), ne-eqb (first % 8) 0 (λ e. omega arith), turns high, lead) (refl, one-more (leZ (pos w +ℤ by (zeros3 + 1)) (pos 0)) w zeros3))
 
   -- a longer one is short where it ends at 0
@@ -129,12 +173,12 @@ module _ (t w : ℕ) (fits : t < 2 ^ 64) where
       let most = simp (move, size) at h in
       ⊎-elim
       (λ (down : 2 ^ 63 + 2 ^ 62 ≤ t).
-      let one = bit-one down in
+      let bit = bit-one down in
       ⊎-elim
       (λ (low : w ≤ 4).
       let far = less-low w (zeros + 1) (omega (arith, lead-more (t * 2 ^ 2 % 2 ^ 64) (omega arith))) in
-      rw (← (change-moved t w (zeros + 1) fits refl)) (simp (le-ltb t (2 ^ 63) high, move, one, less-low w 4 low, far) (refl, refl)))
-      (λ (above : 4 < w). absurd (omega (arith, simp (one, less-some w 4 (omega arith), lt-leb (w - 4) 0 (omega arith)) at most)))
+      rw (← (change-moved t w (zeros + 1) fits one refl)) (simp (le-ltb t (2 ^ 63) high, move, bit, less-low w 4 low, far) (refl, refl)))
+      (λ (above : 4 < w). absurd (omega (arith, simp (bit, less-some w 4 (omega arith), lt-leb (w - 4) 0 (omega arith)) at most)))
       (le-or-lt w 4))
       (λ (up : t < 2 ^ 63 + 2 ^ 62). absurd (omega (arith, simp (bit-none high up, lt-leb (w + 4) 0 (omega arith)) at most)))
       (le-or-lt (2 ^ 63 + 2 ^ 62) t)

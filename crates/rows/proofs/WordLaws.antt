@@ -4,10 +4,9 @@ use mathlib.Core.Path.{_≡_, refl, sym, ap, _∙_}
 use mathlib.Core.Logic.{⊎-elim}
 use mathlib.Core.List.{List, [], _∷_}
 use mathlib.Core.Bool.{cond}
-use Prim.Native.Nat.{ℕ, _+_, _-_, _*_, _/_, _%_, _^_, _≤_, _<_, min}
+use Prim.Native.Nat.{ℕ, _+_, _-_, _*_, _/_, _%_, _^_, _≤_, _<_}
 use native.Mathlib.Nat.{zero-add, add-zero, sub-zero, lt-of-lt-of-le}
 use native.Mathlib.Omega.{arith}
-use lib.Count.{leadingZeros}
 use lib.Dec.{eqb, lit≤}
 use lib.Pow.{shr-lt, shl-lt, pow-mono}
 use lib.IntN.{ℤ, pos, negℤ}
@@ -15,26 +14,28 @@ use mir.Syntax.{w32}
 use mir.Val.{SFits}
 use Rattle.wrap32.proofs.Laws.{cut-id, neg-fits}
 use Rattle.format.specs.Bits.{bitsAt}
-use Rattle.format.specs.Reader.{Reader, updateOf, skipped}
+use Rattle.format.specs.Reader.{Reader, skipped}
 use Rattle.format.proofs.BitLaws.{le-or-lt, bits-lt, bits-low, prefix, middle-of}
 use Rattle.format.proofs.FourLaws.{four-within}
-use Rattle.format.proofs.WordReads.{read-within, word-keeps, word-grows, word-shrinks, word-ends}
+use Rattle.format.proofs.WordReads.{read-within}
+use Rattle.bits.specs.declared.Change.{Change}
+use Rattle.bits.specs.View.{changeOf}
+use Rattle.bits.proofs.WordUpdate.{change-update}
 use Rattle.format.specs.Coefficients.{Four, valueOf, signOf, signsOf, widthNext, groupOf}
 use Rattle.rows.specs.declared.Quad.{Quad}
-use Rattle.rows.specs.Word.{changeOf, scaledOf, nonzeroOf, signedOf, splitOf, withSigns, quadOf}
-use Rattle.rows.specs.declared.Change.{Change}
+use Rattle.rows.specs.Word.{scaledOf, nonzeroOf, signedOf, splitOf, withSigns, quadOf}
 use Rattle.rows.proofs.Numbers.{le-shl, value-plain, value-none, value-some}
 
 -- a value that takes a sign bit
-pub nonzero-none : (u : ℕ) → u ≡ 0 → nonzeroOf u ≡ 0
+nonzero-none : (u : ℕ) → u ≡ 0 → nonzeroOf u ≡ 0
 unfolding nonzeroOf
 nonzero-none u e = simp (eq-eqb _ _ e)
 
-pub nonzero-some : (u : ℕ) → 0 < u → nonzeroOf u ≡ 1
+nonzero-some : (u : ℕ) → 0 < u → nonzeroOf u ≡ 1
 unfolding nonzeroOf
 nonzero-some u h = simp (ne-eqb u 0 (λ e. omega arith))
 
-pub nonzero-le : (u : ℕ) → nonzeroOf u ≤ 1
+nonzero-le : (u : ℕ) → nonzeroOf u ≤ 1
 nonzero-le u = ⊎-elim (λ (h : u ≤ 0). omega (arith, nonzero-none u (omega arith))) (λ (h : 0 < u). omega (arith, nonzero-some u h)) (le-or-lt u 0)
 
 -- a short value under a selector
@@ -55,7 +56,7 @@ pub scaled-some : (u sel : ℕ) → 0 < u → 0 < sel → scaledOf u sel ≡ (2 
 unfolding scaledOf
 scaled-some u sel h k = simp (ne-eqb sel 0 (λ z. omega arith), ne-eqb u 0 (λ z. omega arith))
 
-pub shift-lt : (u k : ℕ) → u < 2 ^ 12 → k < 15 → (2 * u + 1) * 2 ^ k < 2 ^ 27
+shift-lt : (u k : ℕ) → u < 2 ^ 12 → k < 15 → (2 * u + 1) * 2 ^ k < 2 ^ 27
 shift-lt u k small h =
     let double : 2 * u + 1 < 2 ^ 13 = omega arith in
     let most : 13 + k ≤ 27 = omega arith in
@@ -112,40 +113,6 @@ module _ (s : List ℕ) (p word w : ℕ) (holds : word / 2 ^ 7 ≡ bitsAt s p 57
         middle-of s (p + 2 * w) c w w (57 - 2 * w) from-c (omega arith) (omega arith) ∙ ap (λ (q : ℕ). bitsAt s q w) third,
       )
 
--- the width update
-pub change-update : (s : List ℕ) (r : Reader) (w word m : ℕ) → word < 2 ^ 64 → word / 2 ^ (64 - m) ≡ bitsAt s (r .place) m → m ≤ 64 → m ≤ r .remaining → r .status ≡ 0
-    → 1 ≤ w → changeOf word w .used ≤ m → updateOf s r w ≡ record { value = changeOf word w .width; reader = skipped r (changeOf word w .used) }
-unfolding changeOf
-change-update s r w word m fits holds most enough go some room =
-    let z = leadingZeros 64 (word * 2 ^ 2 % 2 ^ 64) in
-    ⊎-elim
-    (λ (high : 2 ^ 63 ≤ word).
-    let k = le-ltb word (2 ^ 63) high in
-    ⊎-elim
-    (λ (up : 2 ^ 63 + 2 ^ 62 ≤ word).
-    let u = le-ltb word (2 ^ 63 + 2 ^ 62) up in
-    let room′ : min (z + 3) (w + 1) ≤ m = simp (k, u) at room in
-    let down : w + 0 - (z + 1) ≡ w - (z + 1) = omega arith in
-    ⊎-elim
-    (λ (long : w ≤ z + 1).
-    let e : min (z + 3) (w + 1) ≡ w + 1 = omega arith in
-    simp (k, u, e, down) (word-ends s r w word m fits holds most enough go high (omega arith) z refl up long some (omega arith)))
-    (λ (before : z + 1 < w).
-    let e : min (z + 3) (w + 1) ≡ z + 3 = omega arith in
-    simp (k, u, e, down) (word-shrinks s r w word m fits holds most enough go high (omega arith) z refl up before (omega arith)))
-    (le-or-lt w (z + 1)))
-    (λ (up : word < 2 ^ 63 + 2 ^ 62).
-    let u = lt-ltb word (2 ^ 63 + 2 ^ 62) up in
-    let room′ : z + 3 ≤ m = simp (k, u) at room in
-    let more : w + (z + 1) - 0 ≡ w + z + 1 = omega arith in
-    simp (k, u, more) (word-grows s r w word m fits holds most enough go high (omega arith) z refl up room′))
-    (le-or-lt (2 ^ 63 + 2 ^ 62) word))
-    (λ (keep : word < 2 ^ 63).
-    let k = lt-ltb word (2 ^ 63) keep in
-    let room′ : 1 ≤ m = simp k at room in
-    simp k (word-keeps s r w word m fits holds most enough go keep room′))
-    (le-or-lt (2 ^ 63) word)
-
 -- 0 has no sign
 pub signed-none : (m bit : ℕ) → m ≡ 0 → signedOf m bit ≡ pos m
 unfolding signedOf
@@ -160,7 +127,7 @@ module _ (s : List ℕ) (r : Reader) (m bit : ℕ) (is : bit ≡ bitsAt s (r .pl
   unfolding signedOf
   signed-bit = ap (λ (b : ℕ). cond (eqb b 0) (pos m) (negℤ (pos m))) is
 
-  pub sign-word : signOf s (pos m) r ≡ record { value = signedOf m bit; reader = skipped r (nonzeroOf m) }
+  sign-word : signOf s (pos m) r ≡ record { value = signedOf m bit; reader = skipped r (nonzeroOf m) }
   unfolding signOf
   sign-word =
       ⊎-elim
@@ -199,7 +166,7 @@ module _ (s : List ℕ) (r : Reader) (word sel n : ℕ) (below : sel < 16) (hold
     abbrev with-signs : Quad
     with-signs = withSigns sel (record { a = q .a; b = q .b; c = q .c; d = q .d }) word (63 - n)
 
-    pub signs-quad : signsOf s sel q (skipped r n) ≡ record { a = with-signs .a; b = with-signs .b; c = with-signs .c; d = with-signs .d; reader = skipped r (n + with-signs .used) }
+    signs-quad : signsOf s sel q (skipped r n) ≡ record { a = with-signs .a; b = with-signs .b; c = with-signs .c; d = with-signs .d; reader = skipped r (n + with-signs .used) }
     unfolding signsOf
     signs-quad =
         let n1 = nonzeroOf (q .a) in
@@ -219,13 +186,13 @@ module _ (s : List ℕ) (r : Reader) (w word g : ℕ) where
   abbrev word-change : Change
   word-change = changeOf (word * 2 ^ (4 * w) % 2 ^ 64) w
 
-  pub next-more : r .status ≡ 0 → word / 2 ^ 7 ≡ bitsAt s (r .place) 57 → 1 ≤ w → 1 < g → 4 * w + word-change .used ≤ 57 → 4 * w + word-change .used ≤ r .remaining
+  pub next-more : r .status ≡ 0 → word / 2 ^ 7 ≡ bitsAt s (r .place) 57 → 1 < g → 4 * w + word-change .used ≤ 57 → 4 * w + word-change .used ≤ r .remaining
       → widthNext s g w (skipped r (4 * w)) ≡ record { value = word-change .width; reader = skipped r (4 * w + word-change .used) }
   unfolding widthNext
-  next-more go holds some more short enough =
+  next-more go holds more short enough =
       let n = 4 * w in
       let k = word-change .used in
-      let e = change-update s (skipped r n) w (word * 2 ^ n % 2 ^ 64) k (omega arith) (middle-of s (r .place) word n k 57 holds short (lit≤ tt)) (omega arith) (omega arith) go some (omega arith) in
+      let e = change-update s (skipped r n) w (word * 2 ^ n % 2 ^ 64) k (omega arith) (middle-of s (r .place) word n k 57 holds short (lit≤ tt)) (omega arith) (omega arith) go (omega arith) in
       let p : r .place + n + k ≡ r .place + (n + k) = omega arith in
       let q : r .remaining - n - k ≡ r .remaining - (n + k) = omega arith in
       simp (lt-leb g 1 more, e, p, q)

@@ -47,7 +47,7 @@ pub record Onward (s : List ℕ) (sel : ℕ) (d : List ℤ) (out : ℕ) (t : Tak
 abbrev pub movedTo : Reader → ℕ → Reader
 movedTo r place = record { place = place; remaining = r .place + r .remaining - place; status = r .status }
 
--- what runs and groups at one go leave besides: a place in the row, with the width as it was if nothing was taken
+-- what is left after runs and groups are taken out of words: a place in the row, with the width as it was if nothing was taken
 pub record Done (s : List ℕ) (n out w out′ w′ : ℕ) (r : BitReader) : Type 0 where
   pub ready : Ready s r
   pub going : r .status ≡ 0

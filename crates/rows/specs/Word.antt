@@ -11,8 +11,9 @@ use lib.Dec.{ltb, eqb}
 use Rattle.format.specs.Bits.{bitsAt}
 use Rattle.format.specs.Reader.{Reader, skipped}
 use Rattle.format.specs.Coefficients.{zerosOf}
+use Rattle.bits.specs.declared.Change.{Change}
+use Rattle.bits.specs.View.{changeOf}
 use Rattle.lists.specs.Lists.{tab}
-use Rattle.rows.specs.declared.Change.{Change}
 use Rattle.rows.specs.declared.Quad.{Quad}
 use Rattle.rows.specs.declared.Run.{Run}
 use Rattle.rows.specs.declared.SignBit.{SignBit}
@@ -22,15 +23,6 @@ unfoldable pub signBitOf : ℤ → ℕ → ℕ → SignBit
 signBitOf z word used =
     cond (ltZ (pos 0) z) (record { value = cond (eqb (word / 2 ^ (3 - used) % 2) 0) z (negℤ z); used = used + 1 })
     (record { value = z; used = used })
-
--- a width update out of a word's first bits
-unfoldable pub changeOf : ℕ → ℕ → Change
-changeOf word w =
-    let z = leadingZeros 64 (word * 2 ^ 2 % 2 ^ 64) in
-    record {
-      width = cond (ltb word (2 ^ 63)) w (w + cond (ltb word (2 ^ 63 + 2 ^ 62)) (z + 1) 0 - cond (ltb word (2 ^ 63 + 2 ^ 62)) 0 (z + 1));
-      used = cond (ltb word (2 ^ 63)) 1 (cond (ltb word (2 ^ 63 + 2 ^ 62)) (z + 3) (min (z + 3) (w + 1)));
-    }
 
 -- the width after a group, and the bits of its values and its update
 abbrev pub stepOf : ℕ → ℕ → Change

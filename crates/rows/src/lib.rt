@@ -1,41 +1,42 @@
 // One row of coefficients.
 ghost use mathlib.Core.Path.{_≡_};
 ghost use mathlib.Core.Bool.{true, false, cond};
-ghost use mathlib.Core.List.{List, _++_};
-ghost use Prim.Native.Nat.{_+_, _-_, _*_, _%_, _^_, _<_, _≤_, min};
-ghost use lib.IntN.{ℤ, pos, negℤ, natAbs, _+ℤ_};
-ghost use lib.Signed.{ltZ, mag};
-ghost use lib.Dec.{eqb, ltb};
-ghost use lib.ListN.{length, replicate, set};
-ghost use Rattle.format.specs.Coefficients.{valueOf, signOf, signsOf, widthAfter, widthNext, groupOf, zerosOf, stopped, rowOf};
+ghost use mathlib.Core.List.{List};
+ghost use Prim.Native.Nat.{ℕ, _+_, _-_, _*_, _%_, _^_, _<_, _≤_, min};
+ghost use lib.IntN.{pos, negℤ, natAbs};
+ghost use lib.Signed.{ltZ};
+ghost use lib.Dec.{eqb};
+ghost use lib.ListN.{length, set};
+ghost use Rattle.format.specs.Coefficients.{valueOf, signOf, signsOf, widthAfter, widthNext, groupOf, zerosOf, zeros, stopped, rowOf};
 ghost use Rattle.bits.specs.View.{asReader, asTaken, asFour, Ready};
 ghost use Rattle.rows.specs.View.{asSigned, asSignedFour, asGroup, asRun};
-ghost use Rattle.rows.specs.Word.{signBitOf, changeOf, nonzeroOf, signedOf, quadOf, storeQuad, levelOf, Tables, Near, Ends, Runs, stepOf};
+ghost use Rattle.rows.specs.Word.{signBitOf, nonzeroOf, signedOf, quadOf, storeQuad, levelOf, Tables, Near, Ends, Runs, stepOf};
 ghost use Rattle.rows.specs.Stretch.{stretchOf, stretchQuad};
-ghost use Rattle.rows.specs.Course.{stateOf, filled, movedTo, Halted, Clean, Onward, Done};
+ghost use Rattle.rows.specs.Course.{stateOf, movedTo, Halted, Clean, Onward, Done};
 use bits::BitReader;
 use bits::Four;
 use bits::Taken;
 use bits::bit_length;
-use bits::least;
-use bits::less;
+use bits::changed;
 use words::after;
+use words::least;
+use words::less;
 use words::window;
 use wrap32::cut32;
 
 // A coefficient, and the reader after it.
-pub struct Signed {
-    pub value: i32,
-    pub reader: BitReader,
+struct Signed {
+    value: i32,
+    reader: BitReader,
 }
 
 // Four coefficients, and the reader after them.
-pub struct SignedFour {
-    pub a: i32,
-    pub b: i32,
-    pub c: i32,
-    pub d: i32,
-    pub reader: BitReader,
+struct SignedFour {
+    a: i32,
+    b: i32,
+    c: i32,
+    d: i32,
+    reader: BitReader,
 }
 
 // The value u under a selector.
@@ -78,20 +79,20 @@ fn sign(z: i32, reader: BitReader, packet: &[u8]) -> Signed
 }
 
 // A group, and the width and the reader after it.
-pub struct GroupAnswer {
-    pub a: i32,
-    pub b: i32,
-    pub c: i32,
-    pub d: i32,
-    pub width: u64,
-    pub reader: BitReader,
+struct GroupAnswer {
+    a: i32,
+    b: i32,
+    c: i32,
+    d: i32,
+    width: u64,
+    reader: BitReader,
 }
 
 // A run of zero groups, and the width and the reader after it.
-pub struct RunAnswer {
-    pub groups: u64,
-    pub width: u64,
-    pub reader: BitReader,
+struct RunAnswer {
+    groups: u64,
+    width: u64,
+    reader: BitReader,
 }
 
 // The signs of four values, one by one.
@@ -120,9 +121,9 @@ fn signs_apart(q: Four, selector: u64, reader: BitReader, packet: &[u8]) -> Sign
 }
 
 // A value with its sign, and how many sign bits of a word of four are used after it.
-pub struct SignBit {
-    pub value: i32,
-    pub used: u64,
+struct SignBit {
+    value: i32,
+    used: u64,
 }
 
 // A value with its sign from a word of four sign bits, of which some are used.
@@ -161,7 +162,7 @@ fn signs(q: Four, selector: u64, reader: BitReader, packet: &[u8]) -> SignedFour
         b: b.value,
         c: c.value,
         d: d.value,
-        reader: reader.skip(d.used),
+        reader: reader.skip(packet, d.used),
     }
 }
 
@@ -217,7 +218,7 @@ fn group(reader: BitReader, packet: &[u8], width: u64, selector: u64, groups: u6
 }
 
 // A run of zero groups.
-fn zeros(reader: BitReader, packet: &[u8], groups: u64) -> RunAnswer
+fn zero_groups(reader: BitReader, packet: &[u8], groups: u64) -> RunAnswer
     requires { ⌜ Ready (now packet) reader ⌝ }
     requires { ⌜ (0 < groups) × (groups < 2 ^ 32) ⌝ }
     ensures { λ r. ⌜ asRun r ≡ zerosOf (now (packet .entry)) groups (asReader reader) ⌝ }
@@ -238,22 +239,17 @@ fn zeros(reader: BitReader, packet: &[u8], groups: u64) -> RunAnswer
 // Status 1 if it was 0.
 fn stop(reader: BitReader) -> BitReader
     ensures { λ r. ⌜ asReader r ≡ stopped (asReader reader) ⌝ }
-    ensures { λ r. ⌜ r .place + r .remaining ≡ reader .place + reader .remaining ⌝ }
+    ensures { λ r. ⌜ ((s : List ℕ) → Ready s reader → Ready s r) ⌝ }
 {
     if reader.status == 0 {
         return BitReader {
             place: reader.place,
-            cache: 0,
+            cache: reader.cache,
             remaining: reader.remaining,
             status: 1,
         };
     }
-    BitReader {
-        place: reader.place,
-        cache: 0,
-        remaining: reader.remaining,
-        status: reader.status,
-    }
+    reader
 }
 
 // A value at a place, if the slice has it.
@@ -265,21 +261,13 @@ fn put(dst: &mut [i32], i: usize, v: i32)
     }
 }
 
-// The lesser of two numbers.
-fn lower(a: usize, b: usize) -> usize
-    ensures { λ r. ⌜ r ≡ min a b ⌝ }
+// Zeros in all of a slice.
+pub fn clear(dst: &mut [i32])
+    ensures { λ r. ⌜ now (dst .exit) ≡ zeros (length (now (dst .entry))) ⌝ }
 {
-    if a <= b { a } else { b }
-}
-
-// So many zeros from an element on, as far as the slice goes.
-pub fn clear(dst: &mut [i32], from: usize, count: usize)
-    requires { ⌜ from + count < 2 ^ 64 ⌝ }
-    ensures { λ r. ⌜ ((l : List ℤ) → filled (now (dst .exit)) (from + count) l ≡ filled (now (dst .entry)) from (replicate count (pos 0) ++ l)) ⌝ }
-{
-    let end = lower(from + count, dst.len());
-    let mut i = from;
-    while i < end {
+    let n = dst.len();
+    let mut i: usize = 0;
+    while i < n {
         dst[i] = 0;
         i += 1;
     }
@@ -296,33 +284,11 @@ fn put4(dst: &mut [i32], i: usize, a: i32, b: i32, c: i32, d: i32)
     put(dst, i + 3, d);
 }
 
-// A width, and the bits that its update took.
-pub struct Change {
-    pub width: u64,
-    pub used: u64,
-}
-
 // One of two numbers, without a branch.
 fn pick(t: bool, a: u64, b: u64) -> u64
     ensures { λ r. ⌜ r ≡ cond t a b ⌝ }
 {
     if t { a } else { b }
-}
-
-// A number under a bit: 0 keeps it, 1 negates it. It stands by itself so that it is compiled without a branch.
-fn turned(e: i64, bit: u64) -> i64
-    requires { ⌜ mag e < 2 ^ 62 ⌝ }
-    ensures { λ r. ⌜ r ≡ cond (eqb bit 0) e (negℤ e) ⌝ }
-{
-    if bit == 0 { e } else { -e }
-}
-
-// The width moved up (bit 0) or down (bit 1) by d, below 0 too.
-fn moved(width: u64, d: u64, bit: u64) -> i64
-    requires { ⌜ (width ≤ 12) × (d ≤ 65) ⌝ }
-    ensures { λ r. ⌜ r ≡ pos width +ℤ cond (eqb bit 0) (pos d) (negℤ (pos d)) ⌝ }
-{
-    (width as i64) + turned(d as i64, bit)
 }
 
 // A number, or 0 where it is below 0.
@@ -332,35 +298,11 @@ fn above(y: i64) -> u64
     if y <= 0 { 0 } else { y as u64 }
 }
 
-// A width update out of a word: the width, and the bits that it takes.
-fn changed(word: u64, width: u64) -> Change
-    requires { ⌜ width ≤ 12 ⌝ }
-    ensures { λ r. ⌜ r ≡ changeOf word width ⌝ }
-    ensures { λ r. ⌜ r .used ≤ 67 ⌝ }
-{
-    let d = (u64::leading_zeros(word << 2) as u64) + 1;
-    let y = moved(width, d, (word >> 62) % 2);
-    let low = y <= 0;
-    let x = pick(low, width, d + 1);
-    let keep = word < 0x8000_0000_0000_0000;
-    Change {
-        width: pick(keep, width, above(y)),
-        used: share(x, word) + 1,
-    }
-}
-
 // 1 for a value that takes a sign bit.
 fn nonzero(u: u64) -> u64
     ensures { λ r. ⌜ (r ≡ nonzeroOf u) × (r ≤ 1) ⌝ }
 {
     if u == 0 { 0 } else { 1 }
-}
-
-// A magnitude where the first bit of a word is 1, else 0.
-fn share(m: u64, word: u64) -> u64
-    ensures { λ r. ⌜ (r ≡ cond (ltb word (2 ^ 63)) 0 m) × (r ≤ m) ⌝ }
-{
-    m * (word >> 63)
 }
 
 // A short magnitude under a sign bit. It stands by itself so that it is compiled without a branch.
@@ -373,12 +315,12 @@ fn with_bit(m: u64, bit: u64) -> i32
 }
 
 // Four values with their signs, and the sign bits that they take.
-pub struct Quad {
-    pub a: i32,
-    pub b: i32,
-    pub c: i32,
-    pub d: i32,
-    pub used: u64,
+struct Quad {
+    a: i32,
+    b: i32,
+    c: i32,
+    d: i32,
+    used: u64,
 }
 
 // Four values with their signs out of a word, of which `used` bits come before the signs.
@@ -461,11 +403,11 @@ fn scaled(q: Quad, selector: u64) -> Quad
     }
 }
 
-// Where the groups stopped that were decoded at one go.
-pub struct Next {
-    pub out: usize,
-    pub width: u64,
-    pub reader: BitReader,
+// How far the decoding of a row has come: the next element, the width and the reader.
+struct Next {
+    out: usize,
+    width: u64,
+    reader: BitReader,
 }
 
 // The place before which two words stand whole in the packet.
@@ -500,10 +442,10 @@ fn over(place: u64, used: u64, most: u64, stop: u64) -> bool
 }
 
 // A zero run and the width after it, and the bits that they take.
-pub struct Run {
-    pub groups: u64,
-    pub width: u64,
-    pub used: u64,
+struct Run {
+    groups: u64,
+    width: u64,
+    used: u64,
 }
 
 // A zero run out of a word, where `left` groups are left.
@@ -537,9 +479,9 @@ fn run_word(word: u64, left: u64) -> Run
 }
 
 // The width after a group, 0 where it is below 0, and the bits of its values and its update.
-pub struct Step {
-    pub level: i64,
-    pub used: u64,
+struct Step {
+    level: i64,
+    used: u64,
 }
 
 // What a width update does to the width, by its first five bits: '0' keeps it, '10' and '11' move it up and down by one more than the zeros
@@ -617,7 +559,7 @@ const LENGTHS: [u8; 32] = [
 
 // The step of a group out of a word: by the tables, or, where its update is longer than theirs, by the zeros in it.
 fn step_word(word: u64, width: u64, moves: &[i8], lengths: &[u8]) -> Step
-    requires { ⌜ width ≤ 12 ⌝ }
+    requires { ⌜ (1 ≤ width) × (width ≤ 12) ⌝ }
     requires { ⌜ Tables (now moves) (now lengths) ⌝ }
     ensures { λ r. ⌜ (levelOf (r .level) ≡ stepOf word width .width) × (r .used ≡ stepOf word width .used) ⌝ }
     ensures { λ r. ⌜ r .used ≤ 115 ⌝ }
@@ -657,14 +599,19 @@ fn ends(width: u64, out: usize, n: usize, place: u64, stop: u64) -> bool
 }
 
 // A point of a row, with the reader that has come to it.
-fn arrived(reader: BitReader, place: u64, width: u64, out: usize) -> Next
+fn arrived(reader: BitReader, place: u64, word: u64, width: u64, out: usize) -> Next
     requires { ⌜ (reader .place ≤ place) × (place ≤ reader .place + reader .remaining) × (reader .place + reader .remaining < 2 ^ 40) ⌝ }
-    ensures { λ r. ⌜ (r .out ≡ out) × (r .width ≡ width) × (asReader (r .reader) ≡ movedTo (asReader reader) place) ⌝ }
+    ensures { λ r. ⌜ (r .out ≡ out) × (r .width ≡ width) × (asReader (r .reader) ≡ movedTo (asReader reader) place) × (r .reader .cache ≡ word) ⌝ }
 {
     Next {
         out,
         width,
-        reader: reader.skip(place - reader.place),
+        reader: BitReader {
+            place,
+            cache: word,
+            remaining: reader.place + reader.remaining - place,
+            status: reader.status,
+        },
     }
 }
 
@@ -691,14 +638,14 @@ fn fast(
     let stop = reader.place + reader.remaining;
     let room = less(stop, 4);
     let mut place = reader.place;
-    let mut word = window(packet, place);
+    let mut word = reader.cache;
     let mut level = width as i64;
     let mut i = out;
     while near(level, i, last, place, end) {
         if level <= 0 {
             let h = run_word(word, ((n - i + 3) / 4) as u64);
             if over(place, h.used, 56, stop) {
-                return arrived(reader, place, 0, i);
+                return arrived(reader, place, word, 0, i);
             }
             i = i + 4 * (h.groups as usize);
             level = h.width as i64;
@@ -708,7 +655,7 @@ fn fast(
             let w = level as u64;
             let u = step_word(word, w, moves, lengths);
             if over(place, u.used, 52, room) {
-                return arrived(reader, place, w, i);
+                return arrived(reader, place, word, w, i);
             }
             let q = quad_word(word, w, u.used);
             put_quad(dst, i, q);
@@ -723,9 +670,10 @@ fn fast(
     if ends(w, i, n, place, stop) {
         let q = quad_word(word, w, 4 * w);
         put_quad(dst, i, q);
-        return arrived(reader, place + 4 * w + q.used, w, i + 4);
+        let next = place + 4 * w + q.used;
+        return arrived(reader, next, window(packet, next), w, i + 4);
     }
-    arrived(reader, place, w, i)
+    arrived(reader, place, word, w, i)
 }
 
 // The same under a selector above 0.
@@ -751,14 +699,14 @@ fn fast_scaled(
     let stop = reader.place + reader.remaining;
     let room = less(stop, 4);
     let mut place = reader.place;
-    let mut word = window(packet, place);
+    let mut word = reader.cache;
     let mut level = width as i64;
     let mut i = out;
     while near(level, i, last, place, end) {
         if level <= 0 {
             let h = run_word(word, ((n - i + 3) / 4) as u64);
             if over(place, h.used, 56, stop) {
-                return arrived(reader, place, 0, i);
+                return arrived(reader, place, word, 0, i);
             }
             i = i + 4 * (h.groups as usize);
             level = h.width as i64;
@@ -768,7 +716,7 @@ fn fast_scaled(
             let w = level as u64;
             let u = step_word(word, w, moves, lengths);
             if over(place, u.used, 52, room) {
-                return arrived(reader, place, w, i);
+                return arrived(reader, place, word, w, i);
             }
             let q = quad_word(word, w, u.used);
             put_quad(dst, i, scaled(q, selector));
@@ -783,9 +731,10 @@ fn fast_scaled(
     if ends(w, i, n, place, stop) {
         let q = quad_word(word, w, 4 * w);
         put_quad(dst, i, scaled(q, selector));
-        return arrived(reader, place + 4 * w + q.used, w, i + 4);
+        let next = place + 4 * w + q.used;
+        return arrived(reader, next, window(packet, next), w, i + 4);
     }
-    arrived(reader, place, w, i)
+    arrived(reader, place, word, w, i)
 }
 
 // Runs and groups out of single words, under any selector.
@@ -828,7 +777,7 @@ fn plain(
 {
     let left = (dst.len() - out + 3) / 4;
     if width == 0 {
-        let run = zeros(reader, packet, left as u64);
+        let run = zero_groups(reader, packet, left as u64);
         let after = run.reader;
         return Next {
             out: out + 4 * (run.groups as usize),
@@ -872,8 +821,8 @@ pub fn decode_component(
     let moves = MOVES;
     let lengths = LENGTHS;
     let n = dst.len();
-    clear(dst, 0, n);
-    let first = reader.width_start(packet);
+    clear(dst);
+    let first = reader.width_update(packet, 0);
     let mut r = first.reader;
     let mut width = first.value;
     let mut out: usize = 0;

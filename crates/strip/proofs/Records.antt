@@ -17,7 +17,7 @@ use Rattle.format.specs.Strip.{Tile, andTile, entryTile, entryTiles, tableOr, h
 use Rattle.strip.specs.declared.TileStream.{TileStream}
 use Rattle.strip.specs.declared.LocatedTile.{LocatedTile}
 use Rattle.strip.specs.declared.LocatedTile.the-variants as answer
-use Rattle.strip.specs.Answers.{zeroStream, streamOf, answerOf, answerNumber, records, located, locatedOf, tableTiles}
+use Rattle.strip.specs.Answers.{zeroStream, streamOf, locatedTileOf, answerNumber, records, located, locatedOf, tableTiles}
 
 -- one more tile at the end
 abbrev pub snoc : Option (List Tile) → Option Tile → Option (List Tile)
@@ -94,7 +94,7 @@ abbrev Held : Option (List Tile) → List TileStream → ℕ → Type 0
 Held r tiles i = (r ≡ some (got r)) × (length (got r) ≡ i) × (tiles ≡ records 16 (got r))
 
 held-on : (r : Option (List Tile)) (o : Option Tile) (tiles : List TileStream) (i : ℕ) (t : TileStream)
-    → Held r tiles i → i < 16 → answerOf o ≡ answer.Tile t → Held (snoc r o) (set tiles i t) (i + 1)
+    → Held r tiles i → i < 16 → locatedTileOf o ≡ answer.Tile t → Held (snoc r o) (set tiles i t) (i + 1)
 held-on (some ts) (some u) tiles i t (e, long, same) h found =
     let tile : streamOf u ≡ t = ap tileIn found in (
       refl,
@@ -109,7 +109,7 @@ whole (some []) tiles n (e, long, same) low = absurd (omega (arith, long))
 whole (some (t ∷ ts)) tiles n (e, long, same) low = rw (ne-eqb n 0 (λ z. omega (arith, z, low)), same, ← long) refl
 whole none tiles n (e, long, same) low = absurd (omega (arith, ap held e))
 
-failed : (o : Option Tile) → answerOf o ≡ answer.Nothing → o ≡ none
+failed : (o : Option Tile) → locatedTileOf o ≡ answer.Nothing → o ≡ none
 failed (some t) e = absurd (omega (arith, ap answerNumber e))
 failed none e = refl
 
@@ -121,7 +121,7 @@ module _ (strip : List ℕ) (w h : ℕ) where
   gathered-none = rw (entries-none strip w h) (refl, refl, refl)
 
   pub gathered-on : (tiles : List TileStream) (i : ℕ) (t : TileStream)
-      → Gathered tiles i → i < 16 → answerOf (entryTile strip w h i) ≡ answer.Tile t → Gathered (set tiles i t) (i + 1)
+      → Gathered tiles i → i < 16 → locatedTileOf (entryTile strip w h i) ≡ answer.Tile t → Gathered (set tiles i t) (i + 1)
   gathered-on tiles i t k less found =
       rw (entries-on strip w h i) (held-on (entryTiles strip w h 0 i) (entryTile strip w h i) tiles i t k less found)
 
@@ -133,7 +133,7 @@ module _ (strip : List ℕ) (w h : ℕ) where
       rw (← same, le-leb 1 n low, le-leb n 16 high) (whole (entryTiles strip w h 0 n) tiles n k low)
 
   -- an entry that fails
-  pub gathered-fail : (i n : ℕ) → answerOf (entryTile strip w h i) ≡ answer.Nothing → i < n → n ≡ little32 strip 0
+  pub gathered-fail : (i n : ℕ) → locatedTileOf (entryTile strip w h i) ≡ answer.Nothing → i < n → n ≡ little32 strip 0
       → tableTiles strip w h ≡ []
   unfolding tableTiles
   gathered-fail i n bad less same =
@@ -163,12 +163,12 @@ leaves true (some t) none rest e = refl
 leaves true none r rest e = refl
 leaves false o r rest e = refl
 
-pub one-tile : (o : Option Tile) (t : TileStream) → answerOf o ≡ answer.Tile t → located 1 (set (records 16 []) 0 t) ≡ locatedOf (listed o)
+pub one-tile : (o : Option Tile) (t : TileStream) → locatedTileOf o ≡ answer.Tile t → located 1 (set (records 16 []) 0 t) ≡ locatedOf (listed o)
 unfolding records
 one-tile (some u) t e = let tile : streamOf u ≡ t = ap tileIn e in rw (← tile) refl
 one-tile none t e = absurd (omega (arith, ap answerNumber e))
 
-pub no-tile : (o : Option Tile) → answerOf o ≡ answer.Nothing → listed o ≡ []
+pub no-tile : (o : Option Tile) → locatedTileOf o ≡ answer.Nothing → listed o ≡ []
 no-tile o e = ap listed (failed o e)
 
 module _ (strip : List ℕ) (w h : ℕ) where

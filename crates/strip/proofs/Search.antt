@@ -10,32 +10,32 @@ use lib.Dec.{leb, eqb}
 use lib.ListN.{length}
 use Rattle.format.specs.Strip.{Tile, validHeader, width, codedHeight, payload, unless0, word, fits, onlyIf, tileAt, orElse, firstTaken, listed}
 use Rattle.strip.specs.declared.LocatedTile.the-variants as answer
-use Rattle.strip.specs.Answers.{stream, answerOf, answerNumber, placed, locatedOf, Sound}
+use Rattle.strip.specs.Answers.{stream, locatedTileOf, answerNumber, placed, locatedOf, HeaderSays}
 use Rattle.strip.specs.declared.Header.{Header}
 use Rattle.strip.specs.declared.StreamHeader.{StreamHeader}
 use Rattle.strip.specs.declared.StreamHeader.the-variants.{Valid, Invalid}
 
 -- ---- one answer
 
-pub dropped : (b : Bool) (t : Tile) → b ≡ false → answer.Nothing ≡ answerOf (onlyIf b t)
+pub dropped : (b : Bool) (t : Tile) → b ≡ false → answer.Nothing ≡ locatedTileOf (onlyIf b t)
 dropped b t e = rw e refl
 
 module _ (s : List ℕ) (at n x y W H x' y' : ℕ) where
   pub kept : (b : Bool) → b ≡ true → n ≡ 128 + payload s → x ≡ x' → y ≡ y' → W ≡ width s → H ≡ codedHeight s
-      → answer.Tile (stream at n x y W H) ≡ answerOf (onlyIf b (tileAt s at x' y'))
+      → answer.Tile (stream at n x y W H) ≡ locatedTileOf (onlyIf b (tileAt s at x' y'))
   kept b e long across down wide high = rw (e, long, across, down, wide, high) refl
 
 -- the number of each answer is that of the strip that has no other
-pub number-is : (o : Option Tile) → answerNumber (answerOf o) ≡ locatedOf (listed o) .refusal
+pub number-is : (o : Option Tile) → answerNumber (locatedTileOf o) ≡ locatedOf (listed o) .refusal
 number-is (some t) = refl
 number-is none = refl
 
 -- a tile that is taken ends the search, nothing passes it on
-pub hit : (o rest : Option Tile) {t : _} → answerOf o ≡ answer.Tile t → answerOf (orElse o rest) ≡ answer.Tile t
+pub hit : (o rest : Option Tile) {t : _} → locatedTileOf o ≡ answer.Tile t → locatedTileOf (orElse o rest) ≡ answer.Tile t
 hit (some u) rest e = e
 hit none rest e = absurd (omega (arith, ap answerNumber e))
 
-pub miss : (o rest : Option Tile) → answerOf o ≡ answer.Nothing → orElse o rest ≡ rest
+pub miss : (o rest : Option Tile) → locatedTileOf o ≡ answer.Nothing → orElse o rest ≡ rest
 miss (some u) rest e = absurd (omega (arith, ap answerNumber e))
 miss none rest e = refl
 
@@ -66,11 +66,11 @@ module _ (strip : List ℕ) (w h i at : ℕ) (s : List ℕ) where
       (leb (word strip i 2 + width s) w) (leb (word strip i 3 + codedHeight s) h) b pb)
 
 -- what a header that was found says of the stream
-pub told : (l s : List ℕ) (r : StreamHeader) (h : Header) → l ≡ s → r ≡ Valid h → Sound l r → Sound s (Valid h)
-told l s r h e f k = subst (λ (x : List ℕ). Sound x (Valid h)) e (subst (Sound l) f k)
+pub told : (l s : List ℕ) (r : StreamHeader) (h : Header) → l ≡ s → r ≡ Valid h → HeaderSays l r → HeaderSays s (Valid h)
+told l s r h e f k = subst (λ (x : List ℕ). HeaderSays x (Valid h)) e (subst (HeaderSays l) f k)
 
-pub told-not : (l s : List ℕ) (r : StreamHeader) → l ≡ s → r ≡ Invalid → Sound l r → validHeader s ≡ false
-told-not l s r e f k = subst (λ (x : List ℕ). validHeader x ≡ false) e (subst (Sound l) f k .0)
+pub told-not : (l s : List ℕ) (r : StreamHeader) → l ≡ s → r ≡ Invalid → HeaderSays l r → validHeader s ≡ false
+told-not l s r e f k = subst (λ (x : List ℕ). validHeader x ≡ false) e (subst (HeaderSays l) f k .0)
 
 -- ---- the candidates in turn, up to an end
 

@@ -34,11 +34,11 @@ abbrev pub headerRefusal : List ℕ → ℕ
 headerRefusal s = on (not (validHeader s)) 2
 
 -- what each answer says of a stream: no refusal, w and H; or refusal 2
-abbrev pub Sound : List ℕ → StreamHeader → Type 0
-Sound s (Valid h) =
+abbrev pub HeaderSays : List ℕ → StreamHeader → Type 0
+HeaderSays s (Valid h) =
     (validHeader s ≡ true) × (128 ≤ length s) × (h .width ≡ strip.width s) × (h .height ≡ strip.codedHeight s)
     × (h .width < 2 ^ 16) × (h .height < 2 ^ 17) × (headerRefusal s ≡ 0)
-Sound s Invalid = (validHeader s ≡ false) × (headerRefusal s ≡ 2)
+HeaderSays s Invalid = (validHeader s ≡ false) × (headerRefusal s ≡ 2)
 
 -- ---- the tiles
 
@@ -55,9 +55,9 @@ abbrev pub zeroStream : TileStream
 zeroStream = stream 0 0 0 0 0 0
 
 -- what a position, an entry, or offset 512 alone gives: a tile with its six fields, or nothing
-abbrev pub answerOf : Option Tile → LocatedTile
-answerOf (some t) = answer.Tile (streamOf t)
-answerOf none = answer.Nothing
+abbrev pub locatedTileOf : Option Tile → LocatedTile
+locatedTileOf (some t) = answer.Tile (streamOf t)
+locatedTileOf none = answer.Nothing
 
 -- the number of each answer, once it is the last: no refusal, or 1, no tile located
 abbrev pub answerNumber : LocatedTile → ℕ

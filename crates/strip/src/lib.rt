@@ -1,14 +1,19 @@
 // The stream header and the locator of tiles in a strip: document 01, 'Strip'.
 ghost use mathlib.Core.Path.{_≡_};
 ghost use mathlib.Core.Bool.{_&&_};
-ghost use Prim.Native.Nat.{_+_, _^_, _<_, _≤_, min};
+ghost use Prim.Native.Nat.{_+_, _^_, _<_, _≤_};
 ghost use mathlib.Core.List.{[]};
 ghost use lib.Dec.{leb, eqb};
 ghost use lib.ListN.{length, getD, drop};
-ghost use Rattle.format.specs.Bits.{little32};
-ghost use Rattle.format.specs.Strip.{magic, sides, marks, groupSize, payload, unless0, word, entryStart, candidate, entryTile, alone, listed, tilesOf};
-ghost use Rattle.strip.specs.Answers.{headerOf, Sound, stream, zeroStream, answerOf, answerNumber, placed, located, locatedOf, tableTiles, streamFields, tileField};
+ghost use Rattle.format.specs.Strip.{magic, sides, marks, payload, unless0, word, entryStart, candidate, entryTile, alone, listed, tilesOf};
+ghost use Rattle.strip.specs.Answers.{headerOf, HeaderSays, stream, zeroStream, locatedTileOf, answerNumber, placed, located, locatedOf, tableTiles, streamFields, tileField};
+use fields::coded_height;
+use fields::group_size;
+use fields::half_height;
+use fields::width;
 use words::field;
+use words::le32;
+use words::least;
 
 // The most tiles that a strip's table lists.
 pub const TILES: usize = 16;
@@ -39,14 +44,7 @@ impl TileStream {
     pub const OFFSET: usize = 512;
 
     // A tile record.
-    pub fn new(
-        offset: usize,
-        length: usize,
-        x: usize,
-        y: usize,
-        width: usize,
-        height: usize,
-    ) -> Self
+    fn new(offset: usize, length: usize, x: usize, y: usize, width: usize, height: usize) -> Self
         ensures { λ r. ⌜ r ≡ stream offset length x y width height ⌝ }
     {
         Self {
@@ -60,7 +58,7 @@ impl TileStream {
     }
 
     // The record with every field 0.
-    pub fn none() -> Self
+    fn none() -> Self
         ensures { λ r. ⌜ r ≡ zeroStream ⌝ }
     {
         Self {
@@ -105,7 +103,7 @@ pub enum StreamHeader {
 }
 
 // What one position, or one entry, gives.
-pub enum LocatedTile {
+enum LocatedTile {
     Tile(TileStream),
     Nothing,
 }
@@ -134,8 +132,8 @@ fn has_sides(stream: &[u8]) -> bool
     requires { ⌜ 128 ≤ length (now stream) ⌝ }
     ensures { λ r. ⌜ r ≡ sides (now (stream .entry)) ⌝ }
 {
-    let w = field(stream, 64, 16);
-    let half = field(stream, 80, 16);
+    let w = width(stream);
+    let half = half_height(stream);
     if w == 0 {
         return false;
     }
@@ -166,7 +164,7 @@ fn has_marks(stream: &[u8]) -> bool
 // The coded size, if the stream starts with a valid header.
 pub fn parse_stream_header(stream: &[u8]) -> StreamHeader
     ensures { λ r. ⌜ r ≡ headerOf (now (stream .entry)) ⌝ }
-    ensures { λ r. ⌜ Sound (now (stream .entry)) r ⌝ }
+    ensures { λ r. ⌜ HeaderSays (now (stream .entry)) r ⌝ }
 {
     if stream.len() < TileStream::HEADER {
         return StreamHeader::Invalid;
@@ -181,21 +179,13 @@ pub fn parse_stream_header(stream: &[u8]) -> StreamHeader
         return StreamHeader::Invalid;
     }
     StreamHeader::Valid(Header {
-        width: field(stream, 64, 16),
-        height: field(stream, 80, 16) * 2,
+        width: width(stream),
+        height: coded_height(stream),
     })
 }
 
-// The size of a group in bytes.
-pub fn group_size(stream: &[u8], group: usize) -> usize
-    requires { ⌜ (128 ≤ length (now stream)) × (group < 5) ⌝ }
-    ensures { λ r. ⌜ (r ≡ groupSize (now (stream .entry)) group) × (r < 2 ^ 28) ⌝ }
-{
-    field(stream, 8 * (16 + 3 * group), 24) * 16
-}
-
 // The header and the payload.
-pub fn stream_length(stream: &[u8]) -> usize
+fn stream_length(stream: &[u8]) -> usize
     requires { ⌜ 128 ≤ length (now stream) ⌝ }
     ensures { λ r. ⌜ (r ≡ 128 + payload (now (stream .entry))) × (r < 2 ^ 31) ⌝ }
 {
@@ -205,26 +195,6 @@ pub fn stream_length(stream: &[u8]) -> usize
         + group_size(stream, 2)
         + group_size(stream, 3)
         + group_size(stream, 4)
-}
-
-// A byte as a number.
-fn byte(strip: &[u8], at: usize) -> usize
-    requires { ⌜ at < length (now strip) ⌝ }
-    ensures { λ r. ⌜ (r ≡ getD (now (strip .entry)) at 0) × (r < 256) ⌝ }
-{
-    strip[at] as usize
-}
-
-// The little-endian 32-bit word at a byte.
-pub fn le32(strip: &[u8], at: usize) -> usize
-    requires { ⌜ at + 4 ≤ length (now strip) ⌝ }
-    ensures { λ r. ⌜ (r ≡ little32 (now (strip .entry)) at) × (r < 2 ^ 32) ⌝ }
-{
-    let a = byte(strip, at);
-    let b = byte(strip, at + 1);
-    let c = byte(strip, at + 2);
-    let d = byte(strip, at + 3);
-    a + b * 0x100 + c * 0x1_0000 + d * 0x100_0000
 }
 
 // Word k of entry i of the table.
@@ -259,10 +229,10 @@ fn matches_side(listed: usize, side: usize) -> bool
 }
 
 // A payload of so many bytes at least lies within the room that is left.
-fn holds_payload(room: usize, payload: usize, atleast: usize) -> bool
-    ensures { λ r. ⌜ r ≡ (leb atleast payload && leb payload room) ⌝ }
+fn holds_payload(room: usize, payload: usize, minimum: usize) -> bool
+    ensures { λ r. ⌜ r ≡ (leb minimum payload && leb payload room) ⌝ }
 {
-    if payload < atleast {
+    if payload < minimum {
         return false;
     }
     payload <= room
@@ -303,7 +273,7 @@ fn fits_frame(strip: &[u8], full_w: usize, full_h: usize, i: usize, h: Header) -
 // Examine one header position for entry i.
 fn examine(strip: &[u8], full_w: usize, full_h: usize, i: usize, at: usize) -> LocatedTile
     requires { ⌜ (640 ≤ length (now strip)) × (i < 16) × (at + 128 ≤ length (now strip)) ⌝ }
-    ensures { λ r. ⌜ r ≡ answerOf (candidate (now (strip .entry)) «full_w» «full_h» i at) ⌝ }
+    ensures { λ r. ⌜ r ≡ locatedTileOf (candidate (now (strip .entry)) «full_w» «full_h» i at) ⌝ }
 {
     let stream = stream_at(strip, at);
     let StreamHeader::Valid(h) = parse_stream_header(stream) else {
@@ -323,20 +293,14 @@ fn examine(strip: &[u8], full_w: usize, full_h: usize, i: usize, at: usize) -> L
     LocatedTile::Tile(TileStream::new(at, length, x, y, h.width, h.height))
 }
 
-// The lesser of two numbers.
-fn least(a: usize, b: usize) -> usize
-    ensures { λ r. ⌜ (r ≡ min a b) × (r ≤ b) ⌝ }
-{
-    if a <= b { a } else { b }
-}
-
 // The tile of entry i: the first of its candidates that is taken.
 fn find_entry(strip: &[u8], full_w: usize, full_h: usize, i: usize) -> LocatedTile
     requires { ⌜ (640 ≤ length (now strip)) × (i < 16) ⌝ }
-    ensures { λ r. ⌜ r ≡ answerOf (entryTile (now (strip .entry)) «full_w» «full_h» i) ⌝ }
+    ensures { λ r. ⌜ r ≡ locatedTileOf (entryTile (now (strip .entry)) «full_w» «full_h» i) ⌝ }
 {
     let start = entry_start(strip, i);
-    let end = least(start + REACH, strip.len() - TileStream::HEADER);
+    let last = strip.len() - TileStream::HEADER;
+    let end = least((start + REACH) as u64, last as u64) as usize;
     let mut at = start;
     while at <= end {
         let found = examine(strip, full_w, full_h, i, at);
@@ -351,7 +315,7 @@ fn find_entry(strip: &[u8], full_w: usize, full_h: usize, i: usize) -> LocatedTi
 // Offset 512 tried alone.
 fn find_alone(strip: &[u8], full_w: usize, full_h: usize) -> LocatedTile
     requires { ⌜ 640 ≤ length (now strip) ⌝ }
-    ensures { λ r. ⌜ r ≡ answerOf (alone (now (strip .entry)) «full_w» «full_h») ⌝ }
+    ensures { λ r. ⌜ r ≡ locatedTileOf (alone (now (strip .entry)) «full_w» «full_h») ⌝ }
     ensures { λ r. ⌜ answerNumber r ≡ locatedOf (listed (alone (now (strip .entry)) «full_w» «full_h»)) .refusal ⌝ }
 {
     let stream = stream_at(strip, TileStream::OFFSET);
@@ -393,7 +357,7 @@ impl Located {
     }
 
     // No tile located: refusal 1 with every other field 0.
-    pub fn refused() -> Self
+    fn refused() -> Self
         ensures { λ r. ⌜ r ≡ locatedOf [] ⌝ }
     {
         let none = TileStream::none();

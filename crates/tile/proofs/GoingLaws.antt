@@ -9,7 +9,7 @@ use borrow.Author.Tests.{lt-ltb}
 use lib.IntN.{ℤ}
 use lib.ListN.{length}
 use Rattle.wrap32.specs.Arithmetic.{wrapping}
-use Rattle.lists.specs.Lists.{Apart, part, rows}
+use Rattle.lists.specs.Lists.{Apart, part, rows, SameBelow}
 use Rattle.lists.proofs.Rings.{rung-on, rung-out, rung-kept}
 use Rattle.lists.proofs.Rows.{length-rows, rows-same}
 use Rattle.lists.proofs.Tab.{length-tab}
@@ -21,16 +21,15 @@ use Rattle.format.specs.Table.{chosen}
 use Rattle.format.proofs.TableLaws.{chosen-in}
 use Rattle.packets.specs.Answers.{groupOf, colourOf}
 use Rattle.passes.specs.declared.Plan.{Plan}
-use Rattle.passes.specs.Plan.{line, unitOf, Fits}
+use Rattle.passes.specs.Plan.{line, unitOf, finalUnits, Fits}
 use Rattle.passes.proofs.PlaceLaws.{place-is}
-use Rattle.passes.proofs.PassLaws.{Same}
 use Rattle.green.specs.Green.{NearGreen}
 use Rattle.levels.specs.Placed.{rowIn}
 use Rattle.levels.specs.Block.{stood, recordSize, recordLines, Stood, groupAt, Records, Lowered, Outcomes, Averaged}
 use Rattle.levels.proofs.Blocks.{group-room}
 use Rattle.levels.proofs.Stood.{stood-row}
 use Rattle.tile.specs.Packets.{groupIn, colourIn, Measured, packetLaid}
-use Rattle.tile.specs.Going.{planeOf, averagesAt, passingAt, Going}
+use Rattle.tile.specs.Going.{decodedPlane, averagesAt, passingAt, Going}
 use Rattle.tile.proofs.Numbers.{group-number}
 
 -- the ring of one group ends where that of a later one starts, or before
@@ -64,12 +63,12 @@ module _ (s : List ℕ) (z : Plan) (fits : Fits z 0) where
   averages-kept : (work after : List ℤ) → ((a k : ℕ) → averagesAt z ≤ a → a + k ≤ passingAt z → part after a k ≡ part work a k) → Outcomes z (coefs s) green (averagesAt z) 0 r work → Outcomes z (coefs s) green (averagesAt z) 0 r after
   averages-kept work after e =
       let d : z .w / 2 ≡ 8 * (z .w / 16) = omega (arith, fits .0 .whole) in
-      let size : z .slots * 8 * (z .w / 2) ≡ 64 * unitOf z = rw d (omega arith) in
+      let size : z .slots * 8 * (z .w / 2) ≡ finalUnits * unitOf z = rw d (omega arith) in
       rung-kept (averagesAt z) (z .w / 2) (z .slots * 8) (line (z .w / 2) (outcome wrapping (z .guarded) (z .n) (z .w) green (coefs s))) 0 r work after (omega (arith, fits .1 .some))
       (λ a k p q. e a k p (omega (arith, size, q)))
 
   -- ---- records of packet p
-  module _ (p i count : ℕ) (low : p < 13) (room : i + count ≤ z .slots) (work after full reds blues : List ℤ) (long : 64 * unitOf z ≤ length work) (e : after ≡ packetLaid s z p i count work) where
+  module _ (p i count : ℕ) (low : p < 13) (room : i + count ≤ z .slots) (work after full reds blues : List ℤ) (long : finalUnits * unitOf z ≤ length work) (e : after ≡ packetLaid s z p i count work) where
     abbrev at : ℕ
     at = groupAt z 0 (groupIn p)
 
@@ -158,11 +157,11 @@ module _ (s : List ℕ) (z : Plan) (fits : Fits z 0) where
   -- ---- the ends of packets 3, 7, 11 and 12
   module _ (m : Measured s z) where
     -- red and blue, as the levels give them
-    red-is : flat r (z .w / 2) (outcome wrapping (z .guarded) (z .n) (z .w) red (coefs s)) ≡ planeOf s red
+    red-is : flat r (z .w / 2) (outcome wrapping (z .guarded) (z .n) (z .w) red (coefs s)) ≡ decodedPlane s red
     unfolding planes
     red-is = (λ j. flat (planeRows (m .guard j) (m .tall j)) (m .wide j / 2) (outcome wrapping (m .guard j) (m .tall j) (m .wide j) red (coefs s)))
 
-    blue-is : flat r (z .w / 2) (outcome wrapping (z .guarded) (z .n) (z .w) blue (coefs s)) ≡ planeOf s blue
+    blue-is : flat r (z .w / 2) (outcome wrapping (z .guarded) (z .n) (z .w) blue (coefs s)) ≡ decodedPlane s blue
     unfolding planes
     blue-is = (λ j. flat (planeRows (m .guard j) (m .tall j)) (m .wide j / 2) (outcome wrapping (m .guard j) (m .tall j) (m .wide j) blue (coefs s)))
 
@@ -226,13 +225,13 @@ module _ (s : List ℕ) (z : Plan) (fits : Fits z 0) where
         details = λ y _ _ b. detail-line y b;
       }
 
-      green-is : rows r (λ k. line (z .w) (bothGreens wrapping r (z .w / 2) (outcome wrapping (z .guarded) (z .n) (z .w) green (coefs s)) used) (0 + k)) ≡ planeOf s green
+      green-is : rows r (λ k. line (z .w) (bothGreens wrapping r (z .w / 2) (outcome wrapping (z .guarded) (z .n) (z .w) green (coefs s)) used) (0 + k)) ≡ decodedPlane s green
       unfolding planes
       green-is =
           rows-same r _ (line (z .w) (bothGreens wrapping r (z .w / 2) (outcome wrapping (z .guarded) (z .n) (z .w) green (coefs s)) used)) (λ k _. ap (line (z .w) (bothGreens wrapping r (z .w / 2) (outcome wrapping (z .guarded) (z .n) (z .w) green (coefs s)) used)) (zero-add k))
           ∙ (λ j. flat (planeRows (m .guard j) (m .tall j)) (m .wide j) (bothGreens wrapping (planeRows (m .guard j) (m .tall j)) (m .wide j / 2) (outcome wrapping (m .guard j) (m .tall j) (m .wide j) green (coefs s)) (λ y. coefs s final green 0 (chosen (m .guard j) y))))
 
-      pub green-end : (after full′ : List ℤ) → Same (passingAt z) after work → full′ ≡ rows r (λ k. line (z .w) (bothGreens wrapping r (z .w / 2) (outcome wrapping (z .guarded) (z .n) (z .w) green (coefs s)) used) (0 + k)) → Going s z 13 0 after full′ reds blues
+      pub green-end : (after full′ : List ℤ) → SameBelow (passingAt z) after work → full′ ≡ rows r (λ k. line (z .w) (bothGreens wrapping r (z .w / 2) (outcome wrapping (z .guarded) (z .n) (z .w) green (coefs s)) used) (0 + k)) → Going s z 13 0 after full′ reds blues
       green-end after full′ same e = record {
         whole = λ k _ b. absurd (omega (arith, b));
         begun = λ t _ b. absurd (omega (arith, b));

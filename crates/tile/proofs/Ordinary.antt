@@ -12,9 +12,9 @@ use Rattle.format.specs.Coefficients.{coefs}
 use Rattle.format.specs.Synthesis.{planes}
 use Rattle.format.specs.Ordinary.{OrdinarySelectors, filteredPlanes}
 use Rattle.format.proofs.Ordinary.{planes-are-whole, none-leaves, planes-are-filtered, planes-are-small}
-use Rattle.tile.specs.Decode.{TileOutcome}
+use Rattle.tile.specs.Decode.{TileOutcome, slice, planesLeft}
 use Rattle.tile.specs.declared.Decoded.{Decoded}
-use Rattle.tile.proofs.Lossless.{slice, planesLeft, admitted, left-is, size-is}
+use Rattle.tile.proofs.Lossless.{admitted, left-is, size-is}
 
 module _ (s : List ℕ) (full red blue work : List ℤ) (r : Decoded) (full′ red′ blue′ work′ : List ℤ) (o : TileOutcome s full red blue work r full′ red′ blue′ work′) (ok : r .refusal ≡ 0) (low : OrdinarySelectors s) where
   a : Admitted s

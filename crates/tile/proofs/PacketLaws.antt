@@ -12,9 +12,9 @@ use Rattle.lists.proofs.Laid.{laid-same}
 use Rattle.format.specs.Coefficients.{recordValues, coefs, packetStopped, groupStopped, planeStopped, stoppedOf}
 use Rattle.format.specs.Packets.{sum, packetStart, packetLength, packetOf, kind, blocks, payloadAt}
 use Rattle.format.specs.Sizes.{Colour, index, l1, l2, l3, Group, base, detail, final, number, multiplier, components, columns}
-use Rattle.format.proofs.Accepted.{Good, PacketOk}
+use Rattle.format.specs.Accepted.{Good, PacketOk}
 use Rattle.passes.specs.declared.Plan.{Plan}
-use Rattle.passes.specs.Plan.{unitOf, Fits}
+use Rattle.passes.specs.Plan.{unitOf, finalUnits, Fits}
 use Rattle.records.specs.declared.Finish.{Finish}
 use Rattle.records.specs.declared.Held.{Held}
 use Rattle.records.specs.declared.Walked.{Walked}
@@ -73,7 +73,7 @@ module _ (s : List ℕ) (good : Good s) (z : Plan) (m : Measured s z) (fits : Fi
 
     module _ (d : Held) (ed : d ≡ heldOf z 0 g) (f : Finish) (ef : f ≡ finishOf z g i) where
       -- what its records ask
-      pub records-ask : (v : Walked) → v .offset < 2 ^ 35 → v .stopped ≡ 0 → (size : ℕ) → 64 * unitOf z ≤ size
+      pub records-ask : (v : Walked) → v .offset < 2 ^ 35 → v .stopped ≡ 0 → (size : ℕ) → finalUnits * unitOf z ≤ size
           → ((16 ≤ length q) × (0 + (z .n + 1) ≤ 2 ^ 16) × (v .offset < 2 ^ 35) × (v .stopped < 2 ^ 59) × (f .first + f .count ≤ kind q * d .m))
           × ((d .m ≤ 8) × (d .cols < 2 ^ 16) × (z .n + 1 ≤ d .slots) × (d .at + d .slots * (kind q * d .m * d .cols) ≤ size))
       records-ask v o n size room =

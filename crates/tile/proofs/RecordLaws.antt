@@ -22,17 +22,17 @@ use Rattle.format.specs.Lifting.{Plane}
 use Rattle.format.specs.Packets.{packetOf, kind}
 use Rattle.format.specs.Sizes.{Colour, index, Level, l1, l2, l3, Group, base, detail, final, number, multiplier, components, columns}
 use Rattle.format.specs.Strip.{width}
-use Rattle.format.specs.Table.{mode}
+use Rattle.format.specs.Table.{mode, ends, asEdge}
 use Rattle.format.proofs.Lengths.{length-values}
 use Rattle.format.proofs.PlaceLaws.{open-sum}
 use Rattle.format.proofs.Ranges.{multiplier-some}
-use Rattle.lifting.specs.Lift.{at, edgeRow, ends, sumRow}
+use Rattle.lifting.specs.Lift.{at, edgeRow, sumRow}
 use Rattle.passes.specs.declared.Plan.{Plan}
 use Rattle.passes.specs.Plan.{line}
 use Rattle.passes.proofs.Planes.{at-line}
 use Rattle.records.specs.Finished.{edged, finishedBy}
 use Rattle.records.proofs.Finished.{length-finished, finished-row, finished-sums, finished-none}
-use Rattle.levels.specs.Block.{asEdge, stood, recordRow, recordLines}
+use Rattle.levels.specs.Block.{stood, recordRow, recordLines}
 use Rattle.levels.proofs.Blocks.{base-line}
 use Rattle.tile.specs.Packets.{Measured, asIs, finishOf}
 

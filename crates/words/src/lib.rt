@@ -1,9 +1,24 @@
-// Big-endian words and bit fields of a byte slice.
+// Words and bit fields of a byte slice, and the lesser and the difference of two numbers.
 ghost use mathlib.Core.Path.{_≡_};
-ghost use Prim.Native.Nat.{_+_, _-_, _/_, _^_, _<_, _≤_};
+ghost use Prim.Native.Nat.{_+_, _-_, _/_, _^_, _<_, _≤_, min};
 ghost use lib.ListN.{length, getD};
-ghost use Rattle.format.specs.Bits.{bitsAt};
+ghost use Rattle.format.specs.Bits.{bitsAt, little32};
 ghost use Rattle.words.specs.Word.{wordAt};
+
+// The lesser of two numbers.
+pub fn least(a: u64, b: u64) -> u64
+    ensures { λ r. ⌜ r ≡ min a b ⌝ }
+    ensures { λ r. ⌜ (r ≤ a) × (r ≤ b) ⌝ }
+{
+    if a <= b { a } else { b }
+}
+
+// The difference, 0 where it would be below 0.
+pub fn less(a: u64, b: u64) -> u64
+    ensures { λ r. ⌜ r ≡ a - b ⌝ }
+{
+    if b < a { a - b } else { 0 }
+}
 
 fn byte(s: &[u8], i: usize) -> u64
     requires { ⌜ i < length (now s) ⌝ }
@@ -64,4 +79,16 @@ pub fn field(s: &[u8], at: usize, n: u64) -> usize
     ensures { λ r. ⌜ (r ≡ bitsAt (now (s .entry)) at n) × (r < 2 ^ n) ⌝ }
 {
     top(window(s, at as u64), n) as usize
+}
+
+// The little-endian 32-bit word at a byte.
+pub fn le32(s: &[u8], at: usize) -> usize
+    requires { ⌜ at + 4 ≤ length (now s) ⌝ }
+    ensures { λ r. ⌜ (r ≡ little32 (now (s .entry)) at) × (r < 2 ^ 32) ⌝ }
+{
+    let a = byte(s, at);
+    let b = byte(s, at + 1);
+    let c = byte(s, at + 2);
+    let d = byte(s, at + 3);
+    (a + b * 0x100 + c * 0x1_0000 + d * 0x100_0000) as usize
 }

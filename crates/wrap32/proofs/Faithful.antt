@@ -68,7 +68,8 @@ module _ {N : Type 0} (A : Arithmetic N) where
   cond-is false a b x y p q = q refl
 
 module _ {N : Type 0} (A : Arithmetic N) (ok : Faithful A) where
-  pair-is : (op : N → N → N) (f : ℤ → ℤ → ℤ) → ((x y : ℤ) → SFits w32 x → SFits w32 y → SFits w32 (f x y) → op (A .of x) (A .of y) ≡ A .of (f x y)) → ((x y : ℤ) (m n : ℕ) → mag x < m → mag y < n → mag (f x y) < m + n) → {m n : ℕ} {a b : N} {x y : ℤ} → Is A m a x → Is A n b y → m + n ≤ 2 ^ 31 → Is A (m + n) (op a b) (f x y)
+  pair-is : (op : N → N → N) (f : ℤ → ℤ → ℤ) → ((x y : ℤ) → SFits w32 x → SFits w32 y → SFits w32 (f x y) → op (A .of x) (A .of y) ≡ A .of (f x y))
+      → ((x y : ℤ) (m n : ℕ) → mag x < m → mag y < n → mag (f x y) < m + n) → {m n : ℕ} {a b : N} {x y : ℤ} → Is A m a x → Is A n b y → m + n ≤ 2 ^ 31 → Is A (m + n) (op a b) (f x y)
   pair-is op f law less {m} {n} {a} {b} {x} {y} p q h =
       let s = less x y m n (p .below) (q .below) in
       record { same = (λ i. op (p .same i) (q .same i)) ∙ law x y (omega (arith, p .below)) (omega (arith, q .below)) (omega (arith, s)); below = s }

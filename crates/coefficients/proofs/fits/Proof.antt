@@ -39,7 +39,7 @@ returns-5 c =
       le-leb _ _ (c .before .before .before .before .if2 .left),
       lt-ltb _ _ (c .before .before .before .if3 .left),
       lt-ltb _ _ (c .before .before .if4 .left),
-      ← (c .before .field .ensures .0),
+      ← (c .before .blocks2 .ensures .0),
       lt-leb _ _ (c .if5 .taken),
     )
 
@@ -51,23 +51,23 @@ returns-6 c =
       le-leb _ _ (c .before .before .before .before .before .if2 .left),
       lt-ltb _ _ (c .before .before .before .before .if3 .left),
       lt-ltb _ _ (c .before .before .before .if4 .left),
-      ← (c .before .before .field .ensures .0),
+      ← (c .before .before .blocks2 .ensures .0),
       le-leb _ _ (c .before .if5 .left),
-      ← (c .field2 .ensures .0),
+      ← (c .kind .ensures .0),
     )
 
-module _ (c : tie.After-field2) where
+module _ (c : tie.After-kind) where
   abbrev s : tie.Start
   s = c .before .before .before .before .before .before .before .before
 
-  rows : c .field2 .result * s .args .m ≤ 3 * s .args .m
-  rows = rows-le (c .field2 .result) (s .args .m) (omega (arith, c .field2 .ensures .1))
+  rows : c .kind .result * s .args .m ≤ 3 * s .args .m
+  rows = rows-le (c .kind .result) (s .args .m) (omega (arith, c .kind .ensures .1))
 
-  size : c .field2 .result * s .args .m * s .args .cols ≤ 24 * s .args .cols
-  size = size-le (c .field2 .result) (s .args .m) (s .args .cols) (omega (arith, c .field2 .ensures .1)) (omega arith)
+  size : c .kind .result * s .args .m * s .args .cols ≤ 24 * s .args .cols
+  size = size-le (c .kind .result) (s .args .m) (s .args .cols) (omega (arith, c .kind .ensures .1)) (omega arith)
 
-  all : s .args .n * (c .field2 .result * s .args .m * s .args .cols) ≤ 65536 * (c .field2 .result * s .args .m * s .args .cols)
-  all = mul-le-mul-right (c .field2 .result * s .args .m * s .args .cols) (omega arith)
+  all : s .args .n * (c .kind .result * s .args .m * s .args .cols) ≤ 65536 * (c .kind .result * s .args .m * s .args .cols)
+  all = mul-le-mul-right (c .kind .result * s .args .m * s .args .cols) (omega arith)
 
 pub fits-spec : {M : Type 1} → statement M
 fits-spec =

@@ -14,7 +14,7 @@ level-in-requires c κs =
     let s = h .args in
     let p = h .pre in
     let z = s .z in
-    level-asks (z .guarded) (z .w) (z .n) (z .slots) (s .at) (p .0 .0) (p .0 .1) l3 _ (d .level-3 .ensures) _ (d .level-3 .ensures .rows ∙ highs-3 (z .guarded) (z .n)) (s .out) _ (refl) (s .from) (s .count) (p .4) (p .5) _ (p .2) _ (p .1) (p .3)
+    level-asks z (s .at) (p .0) l3 _ (d .level-3 .ensures) _ (d .level-3 .ensures .rows ∙ highs-3 (z .guarded) (z .n)) (s .out) _ refl (s .from) (s .count) (p .4) (p .5) _ (p .2) _ (p .1) (p .3)
 
 returns : tie.Need-returns
 returns c =
@@ -25,7 +25,7 @@ returns c =
     let s = h .args in
     let p = h .pre in
     let z = s .z in
-    level-gives (z .guarded) (z .w) (z .n) (z .slots) (s .at) (p .0 .0) (p .0 .1) l3 _ (d .level-3 .ensures) _ (d .level-3 .ensures .rows ∙ highs-3 (z .guarded) (z .n)) (s .out) _ (refl) (s .from) (s .count) (p .4) (p .5) _ (p .2)
+    level-gives z (s .at) (p .0) l3 _ (d .level-3 .ensures) _ (d .level-3 .ensures .rows ∙ highs-3 (z .guarded) (z .n)) (s .out) _ refl (s .from) (s .count) (p .4) (p .5) _ (p .2)
     ll b _ _ refl near (e .level-in .ensures)
 
 pub average-rows-spec : {M : Type 1} → statement M

@@ -1,13 +1,12 @@
 -- `levels::leading_steps` meets its contract. Assumes nothing.
 use mathlib.Core.Path.{_∙_}
-use Prim.Native.Nat.{_+_, _-_, _≤_}
+use Prim.Native.Nat.{_+_, _-_, _*_, _≤_}
 use native.Mathlib.Omega.{arith}
 use borrow.Author.Tests.{lt-ltb, le-ltb}
 use mathlib.Core.Bool.{true}
 use lib.ListN.{length}
-use Rattle.lists.specs.Lists.{putAt}
+use Rattle.lists.specs.Lists.{putAt, SameBelow}
 use Rattle.passes.specs.Level.{pairAt}
-use Rattle.passes.proofs.PassLaws.{Same, lows-more, highs-more}
 use Rattle.levels.proofs.StepLaws.{pairs-same, last-same}
 use borrow.Author.Needs.{needs}
 use Rattle.levels.proofs.leading_steps.Statement.{statement}
@@ -20,17 +19,10 @@ leading-last-requires c κs =
     let h = i .before in
     let s = h .args in
     let p = h .pre in
-    let long = e .leading-in .kept .0 in
-    let room : s .out ≤ length (e .leading-in .last .0) = omega (arith, long, p .6) in (
-      p .0,
-      omega (arith, i .if1 .taken, p .2),
-      e .leading-in .kept .1 .0 ∙ p .5,
-      omega (arith, long, p .6),
-      p .7,
-      lows-more (s .g) _ _ room (p .8),
-      highs-more (s .g) (s .m) _ _ room (p .9),
-      p .10,
-    )
+    let q = p .5 in
+    let d = e .leading-in in
+    let room : s .out + s .pairs * (4 * s .g .c) ≤ length (d .last .0) = omega (arith, d .kept .0, q .room) in
+    (p .0, omega (arith, i .if1 .taken, p .2), record { three = d .kept .1 .0 ∙ q .three; room = room; some = q .some; stands = q .stands })
 
 returns : tie.Need-returns
 returns c =
@@ -42,8 +34,10 @@ returns c =
     let p = h .pre in
     let k = s .g .h - s .from in
     let mid = e .leading-in .ensures in
-    let same : Same (s .out) (e .leading-in .last .0) (s .work .now) = rw mid (pairs-same true (s .g) (s .m) (s .out) (s .pairs) (s .work .now) (s .from) (p .7) (p .6) k) in
-    let row = last-same (s .g) (s .m) (s .out) _ (s .work .now) same (p .8) (p .9) (p .0) (omega (arith, i .if1 .taken, p .2, p .4)) in
+    let q = p .5 in
+    let same : SameBelow (s .out) (e .leading-in .last .0) (s .work .now) =
+    rw mid (pairs-same true (s .g) (s .m) (s .out) (s .pairs) (s .work .now) (s .from) (q .some) (q .room) k) in
+    let row = last-same (s .g) (s .m) (s .out) _ (s .work .now) same (q .stands) (p .0) (omega (arith, i .if1 .taken, p .2, p .4)) in
     rw (lt-ltb (s .g .h) (s .from + s .count) (i .if1 .taken))
     (d .leading-last .ensures ∙ (λ j. putAt (mid j) (pairAt (s .out) (s .pairs) (s .g .c) (s .g .h)) (row j)))
 

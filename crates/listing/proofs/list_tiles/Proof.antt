@@ -22,8 +22,11 @@ put-tiles-requires c κs =
     let a = c .before .before .before .before .before .before .before .before .before .before .before .before .before .args in
     let ts = tilesOf (a .strip .now) (a .full-w) (a .full-h) in
     let count = ap (λ (l : Located). l .count) (find-streams .ensures) ∙ count-is ts in
-    let tiles = ap (λ (l : Located). l .tiles) (find-streams .ensures) ∙ tiles-is ts in
-    (omega (arith, pre, put-bytes .ensures .0, put-bytes .kept .0, put-field .ensures .1, put-field .kept .0), omega (arith, count, most (a .strip .now) (a .full-w) (a .full-h)), ap length tiles ∙ records-long 16 ts)
+    let tiles = ap (λ (l : Located). l .tiles) (find-streams .ensures) ∙ tiles-is ts in (
+      omega (arith, pre, put-bytes .ensures .0, put-bytes .kept .0, put-field .ensures .1, put-field .kept .0),
+      omega (arith, count, most (a .strip .now) (a .full-w) (a .full-h)),
+      ap length tiles ∙ records-long 16 ts,
+    )
 
 returns : tie.Need-returns
 returns c =
@@ -42,12 +45,16 @@ returns c =
     let m = put-bytes .last .0 in
     let end = put-tiles .last .0 in
     let after : Put m end (put-bytes .result) (put-tiles .result) lines =
-    put-on m (put-field .last .0) end (ended n 10) (rows n (lineAt tiles)) (put-bytes .result) (put-field .result) (put-tiles .result) (put-field .ensures .0) (put-tiles .ensures .0) (omega (arith, pre, put-bytes .ensures .0, put-bytes .kept .0, put-field .ensures .1)) in
+    put-on m (put-field .last .0) end (ended n 10) (rows n (lineAt tiles)) (put-bytes .result) (put-field .result) (put-tiles .result)
+    (put-field .ensures .0)
+    (put-tiles .ensures .0)
+    (omega (arith, pre, put-bytes .ensures .0, put-bytes .kept .0, put-field .ensures .1)) in
     let all : Put o end 0 (put-tiles .result) (tilesWord ++ lines) =
     put-on o m end tilesWord lines 0 (put-bytes .result) (put-tiles .result) (put-bytes .ensures) after (omega (arith, pre, put-bytes .ensures .0)) in
     let count = ap (λ (l : Located). l .count) (find-streams .ensures) ∙ count-is ts in
     let same = ap (λ (l : Located). l .tiles) (find-streams .ensures) ∙ tiles-is ts in
-    let whole : Put o end 0 (put-tiles .result) (listing ts) = subst (Put o end 0 (put-tiles .result)) (listing-is n tiles ts count same (most s (a .full-w) (a .full-h))) all in
+    let whole : Put o end 0 (put-tiles .result) (listing ts) =
+    subst (Put o end 0 (put-tiles .result)) (listing-is n tiles ts count same (most s (a .full-w) (a .full-h))) all in
     ((omega (arith, whole .0), whole .1), omega (arith, put-bytes .ensures .0, put-field .ensures .1, put-tiles .ensures .1))
 
 pub list-tiles-spec : {M : Type 1} → statement M

@@ -37,7 +37,8 @@ loop-again : tie.Need-loop-again Inv-loop μ-loop
 loop-again c =
     let a = c .before .before .before .args in
     let loop = c .before .before .loop in
-    (put-step (a .out .now) (loop .out) (a .at) (loop .i) (λ k. getD (a .text .now) k 0) _ (loop .inv .0) (omega arith) refl, rw length-set (loop .inv .1), omega arith)
+    let step = put-step (a .out .now) (loop .out) (a .at) (loop .i) (λ k. getD (a .text .now) k 0) _ (loop .inv .0) (omega arith) refl in
+    (step, rw length-set (loop .inv .1), omega arith)
 
 add-result : tie.Need-add-result Inv-loop μ-loop
 add-result c = omega arith
@@ -50,7 +51,8 @@ returns c =
     let loop = c .before .loop in
     let a = c .before .before .args in
     let same : loop .i ≡ length (a .text .now) = omega arith in
-    (refl, loop .inv .0 ∙ ap (λ (n : ℕ). putAt (a .out .now) (a .at) (tab n (λ k. getD (a .text .now) k 0))) same ∙ ap (putAt (a .out .now) (a .at)) (sym (tab-of 0 (a .text .now))))
+    let text = ap (λ (n : ℕ). tab n (λ k. getD (a .text .now) k 0)) same ∙ sym (tab-of 0 (a .text .now)) in
+    (refl, loop .inv .0 ∙ ap (putAt (a .out .now) (a .at)) text)
 
 pub put-bytes-spec : {M : Type 1} → statement M
 put-bytes-spec =

@@ -24,7 +24,10 @@ returns c =
     let pre = c .before .before .before .before .before .before .before .before .before .pre in
     let a = c .before .before .before .before .before .before .before .before .before .args in
     let p : Put (a .out .now) (put .last .0) (a .at) (put .result) (ended (a .n) (a .end)) =
-    put-on (a .out .now) (put-number .last .0) (put .last .0) (decimal (a .n)) (a .end ∷ []) (a .at) (put-number .result) (put .result) (put-number .ensures) (put .ensures) (omega (arith, decimal-most (a .n), pre, put-number .ensures .0)) in
+    put-on (a .out .now) (put-number .last .0) (put .last .0) (decimal (a .n)) (a .end ∷ []) (a .at) (put-number .result) (put .result)
+    (put-number .ensures)
+    (put .ensures)
+    (omega (arith, decimal-most (a .n), pre, put-number .ensures .0)) in
     (p, omega (arith, p .0, ended-most (a .n) (a .end)))
 
 pub put-field-spec : {M : Type 1} → statement M

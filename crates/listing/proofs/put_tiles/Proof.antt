@@ -11,7 +11,8 @@ use Rattle.listing.proofs.put_tiles.Statement.{statement}
 use Rattle.listing.proofs.put_tiles.Tie as tie
 
 abbrev Inv-loop : tie.InvT-loop
-Inv-loop out₀ at located next₀ i₀ out next i = Put out₀ out at next (rows i (lineAt (located .tiles))) × (next ≤ at + i * 126) × (length out ≡ length out₀) × (i ≤ located .count)
+Inv-loop out₀ at located next₀ i₀ out next i =
+    Put out₀ out at next (rows i (lineAt (located .tiles))) × (next ≤ at + i * 126) × (length out ≡ length out₀) × (i ≤ located .count)
 
 abbrev μ-loop : tie.MeasureT-loop
 μ-loop out₀ at located next₀ i₀ out next i = located .count - i
@@ -45,7 +46,12 @@ loop-again c =
     let put-tile = c .before .before .put-tile in
     let pre = c .before .before .before .before .before .before .before .before .pre in
     let a = c .before .before .before .before .before .before .before .before .args in
-    (rows-on (lineAt (a .t3 .tiles)) (a .out .now) (loop .out) (put-tile .last .0) (a .at) (loop .next) (put-tile .result) (loop .i) (loop .inv .0) (put-tile .ensures .0) (omega (arith, loop .inv .1, pre .0, pre .1)), omega (arith, loop .inv .1, put-tile .ensures .1), put-tile .kept .0 ∙ loop .inv .2, omega arith)
+    let lines : Put (a .out .now) (put-tile .last .0) (a .at) (put-tile .result) (rows (loop .i + 1) (lineAt (a .t3 .tiles))) =
+    rows-on (lineAt (a .t3 .tiles)) (a .out .now) (loop .out) (put-tile .last .0) (a .at) (loop .next) (put-tile .result) (loop .i)
+    (loop .inv .0)
+    (put-tile .ensures .0)
+    (omega (arith, loop .inv .1, pre .0, pre .1)) in
+    (lines, omega (arith, loop .inv .1, put-tile .ensures .1), put-tile .kept .0 ∙ loop .inv .2, omega arith)
 
 same-length : tie.Need-same-length Inv-loop μ-loop
 same-length c = c .before .loop .inv .2
@@ -56,7 +62,8 @@ returns c =
     let pre = c .before .before .before .pre in
     let a = c .before .before .before .args in
     let same : loop .i ≡ a .t3 .count = omega arith in
-    (subst (λ (n : ℕ). Put (a .out .now) (loop .out) (a .at) (loop .next) (rows n (lineAt (a .t3 .tiles)))) same (loop .inv .0), omega (arith, loop .inv .1, pre .1))
+    let lines = subst (λ (n : ℕ). Put (a .out .now) (loop .out) (a .at) (loop .next) (rows n (lineAt (a .t3 .tiles)))) same (loop .inv .0) in
+    (lines, omega (arith, loop .inv .1, pre .1))
 
 pub put-tiles-spec : {M : Type 1} → statement M
 put-tiles-spec =

@@ -12,19 +12,19 @@ returns : tie.Need-returns
 unfolding checkedOf
 returns c = simp (← (c .before .first-refusal .ensures), ne-eqb _ _ (c .if1 .taken))
 
-field-requires : tie.Need-field-requires
+width-requires : tie.Need-width-requires
 unfolding checkedOf
-field-requires c κs =
+width-requires c κs =
     let a = c .before .before .before .args in
     let none = sym (c .before .first-refusal .ensures) ∙ c .if1 .left in
-    (omega (arith, refusal-long (a .stream .now) (a .green) (a .red) (a .blue) (a .work) none), omega arith)
+    omega (arith, refusal-long (a .stream .now) (a .green) (a .red) (a .blue) (a .work) none)
 
 coded-height-requires : tie.Need-coded-height-requires
 unfolding checkedOf
 coded-height-requires c κs =
     let a = c .before .before .before .before .args in
     let none = sym (c .before .before .first-refusal .ensures) ∙ c .before .if1 .left in
-    refusal-long (a .stream .now) (a .green) (a .red) (a .blue) (a .work) none
+    omega (arith, refusal-long (a .stream .now) (a .green) (a .red) (a .blue) (a .work) none)
 
 returns-2 : tie.Need-returns-2
 unfolding checkedOf
@@ -32,7 +32,7 @@ returns-2 c =
     simp (
       ← (c .before .before .before .first-refusal .ensures),
       c .before .before .if1 .left,
-      ← (c .before .field .ensures .0),
+      ← (c .before .width .ensures .0),
       ← (c .coded-height .ensures .0),
     )
 
@@ -42,6 +42,6 @@ check-spec =
     (tie.spec
     (λ c κs. search needs)
     returns
-    field-requires
+    width-requires
     coded-height-requires
     returns-2)

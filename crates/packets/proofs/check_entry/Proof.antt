@@ -1,52 +1,61 @@
 -- `packets::check_entry` meets its contract. Assumes nothing.
-use mathlib.Core.Path.{_≡_, sym, ap, _∙_}
+use mathlib.Core.Path.{sym, ap, _∙_}
 use native.Mathlib.Omega.{arith}
 use borrow.Author.Needs.{needs}
-use Rattle.packets.specs.Answers.{entryOf, missing}
+use Rattle.packets.specs.Answers.{entryNumber}
 use Rattle.format.proofs.TurnLaws.{stops}
 use Rattle.format.proofs.RecordLaws.{packet-long}
-use Rattle.packets.proofs.AnswerLaws.{packet-at, entry-check, found-inside}
+use Rattle.packets.proofs.AnswerLaws.{entry-check, found-inside}
 use Rattle.packets.proofs.check_entry.Statement.{statement}
 use Rattle.packets.proofs.check_entry.Tie as tie
 
 returns : tie.Need-returns
 returns c =
-    let a = c .before .before .before .before .args in
-    let none : missing (entryOf (a .stream .now) (a .group) (a .index)) ≡ 9 = ap missing (sym (c .before .before .find-entry .ensures) ∙ c .enum-told .given .1) in
-    simp (entry-check (a .stream .now) (a .group) (a .index) (c .before .before .before .before .pre .1), none)
+    let found = c .before .before in
+    let s = found .before .before in
+    let a = s .args in
+    simp (entry-check (a .stream .now) (a .group) (a .index) (found .find-entry .result) (found .find-entry .ensures .1) (s .pre .1), c .enum-told2 .given .1)
 
-part-requires : tie.Need-part-requires
-part-requires c κs =
-    let a = c .before .before .before .before .before .args in
-    let is = sym (c .before .before .before .find-entry .ensures) ∙ c .before .start .given .1 in
-    found-inside (a .stream .now) (a .group) (a .index) _ _ (c .before .before .before .before .before .pre .3) (c .before .before .before .before .before .pre .1) is
+packet-requires : tie.Need-packet-requires
+packet-requires c κs =
+    let found = c .before .before in
+    let s = found .before .before in
+    let a = s .args in
+    let inside = found-inside (a .stream .now) (a .group) (a .index) (found .find-entry .result) (found .find-entry .ensures .1) (s .pre .3) (s .pre .1) (ap entryNumber (c .enum-told .given .1)) in
+    (s .pre .0, s .pre .1, s .pre .2, inside)
 
 returns-2 : tie.Need-returns-2
 returns-2 c =
-    let a = c .before .before .before .before .before .before .before .before .args in
-    let is = sym (c .before .before .before .before .before .before .find-entry .ensures) ∙ c .before .before .before .before .start .given .1 in
+    let p = c .before .before in
+    let told = p .before in
+    let found = told .before .before in
+    let s = found .before .before in
+    let a = s .args in
     simp (
-      entry-check (a .stream .now) (a .group) (a .index) (c .before .before .before .before .before .before .before .before .pre .1),
-      is,
-      packet-at (a .stream .now) (a .group) (a .index) _ _ is,
-      ← (c .before .before .part .ensures),
+      entry-check (a .stream .now) (a .group) (a .index) (found .find-entry .result) (found .find-entry .ensures .1) (s .pre .1),
+      told .enum-told .given .1,
+      ← (p .packet .ensures),
       ← (c .before .parse-packet .ensures),
     ) (sym (stops _ _ (c .if1 .taken)))
 
 returns-3 : tie.Need-returns-3
 returns-3 c =
-    let a = c .before .before .before .before .before .before .before .before .before .before .before .before .args in
-    let is = sym (c .before .before .before .before .before .before .before .before .before .before .find-entry .ensures) ∙ c .before .before .before .before .before .before .before .before .start .given .1 in
+    let height = c .before in
+    let e = height .before .before .before in
+    let p = e .before .before in
+    let told = p .before in
+    let found = told .before .before in
+    let s = found .before .before in
+    let a = s .args in
     simp (
-      entry-check (a .stream .now) (a .group) (a .index) (c .before .before .before .before .before .before .before .before .before .before .before .before .pre .1),
-      is,
-      packet-at (a .stream .now) (a .group) (a .index) _ _ is,
-      ← (c .before .before .before .before .before .before .part .ensures),
-      ← (c .before .before .before .before .before .parse-packet .ensures),
-      c .before .before .before .before .if1 .left,
-      ← (c .before .before .before .field .ensures .0),
-      ← (c .before .before .field2 .ensures .0),
-      ← (c .before .coded-height .ensures .0),
+      entry-check (a .stream .now) (a .group) (a .index) (found .find-entry .result) (found .find-entry .ensures .1) (s .pre .1),
+      told .enum-told .given .1,
+      ← (p .packet .ensures),
+      ← (e .before .parse-packet .ensures),
+      e .if1 .left,
+      ← (height .before .before .kind .ensures .0),
+      ← (height .before .blocks2 .ensures .0),
+      ← (height .coded-height .ensures .0),
       c .check-in-tile .ensures,
     )
 
@@ -58,11 +67,11 @@ check-entry-spec =
     (λ c. search needs)
     (λ c. search needs)
     returns
-    part-requires
+    packet-requires
     (λ c κs. search needs)
     returns-2
-    (λ c κs. (omega (arith, packet-long _ (sym (c .before .parse-packet .ensures) ∙ c .if1 .left)), omega arith))
-    (λ c κs. (omega (arith, packet-long _ (sym (c .before .before .parse-packet .ensures) ∙ c .before .if1 .left)), omega arith))
+    (λ c κs. omega (arith, packet-long _ (sym (c .before .parse-packet .ensures) ∙ c .if1 .left)))
+    (λ c κs. omega (arith, packet-long _ (sym (c .before .before .parse-packet .ensures) ∙ c .before .if1 .left)))
     (λ c κs. search needs)
     (λ c κs. search needs)
     returns-3)

@@ -1,10 +1,9 @@
 -- `ring::emit_two` meets its contract. Assumes nothing.
-use Prim.Native.Nat.{_+_, _*_}
+use Prim.Native.Nat.{_*_}
 use native.Mathlib.Omega.{arith}
 use Rattle.lists.proofs.Part.{put-next}
 use Rattle.lists.proofs.Tab.{length-tab}
-use Rattle.lists.specs.Lists.{part}
-use Rattle.lifting.specs.Lift.{liftRow}
+use Rattle.ring.specs.Ring.{alongRow}
 use borrow.Author.Needs.{needs}
 use Rattle.ring.proofs.emit_two.Statement.{statement}
 use Rattle.ring.proofs.emit_two.Tie as tie
@@ -13,7 +12,9 @@ returns : tie.Need-returns
 returns c =
     let s = c .before .before .before .before .before .before .args in
     let l = s .ring .now in
-    put-next (s .out .now) _ _ (liftRow (s .c) (part l (s .a) (s .c)) (part l (s .a + s .c) (s .c))) (liftRow (s .c) (part l (s .b) (s .c)) (part l (s .b + s .c) (s .c))) (s .o) (2 * s .c) (length-tab (2 * s .c) _) (c .before .before .before .before .emit .ensures) (c .before .emit2 .ensures) (omega arith)
+    let n = 2 * s .c in
+    let e = c .before .before .before .before .emit .ensures in
+    put-next (s .out .now) _ _ (alongRow (s .c) l (s .a)) (alongRow (s .c) l (s .b)) (s .o) n (length-tab n _) e (c .before .emit2 .ensures) (omega arith)
 
 pub emit-two-spec : {M : Type 1} → statement M
 emit-two-spec =

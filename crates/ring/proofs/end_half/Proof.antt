@@ -12,15 +12,15 @@ use Rattle.ring.proofs.end_half.Tie as tie
 end-row-requires : tie.Need-end-row-requires
 end-row-requires c κs =
     let s = c .before .before .args in
-    let n : s .h + s .c - s .h ≡ s .c = omega arith in
-    let t : length (part (s .work .now) (s .h) (s .c)) ≡ s .c = length-part (s .work .now) (s .h) (s .c) (omega arith) in
+    let n : s .high + s .c - s .high ≡ s .c = omega arith in
+    let t : length (part (s .work .now) (s .high) (s .c)) ≡ s .c = length-part (s .work .now) (s .high) (s .c) (omega arith) in
     rw (n, t) (omega arith, omega arith, c .before .before .pre .3)
 
 returns : tie.Need-returns
 returns c =
     let s = c .before .before .before .before .args in
-    let n : s .h + s .c - s .h ≡ s .c = omega arith in
-    let t : length (part (s .work .now) (s .h) (s .c)) ≡ s .c = length-part (s .work .now) (s .h) (s .c) (omega arith) in
+    let n : s .high + s .c - s .high ≡ s .c = omega arith in
+    let t : length (part (s .work .now) (s .high) (s .c)) ≡ s .c = length-part (s .work .now) (s .high) (s .c) (omega arith) in
     rw (n, t) at (c .before .end-row .ensures)
 
 pub end-half-spec : {M : Type 1} → statement M

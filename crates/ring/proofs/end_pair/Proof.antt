@@ -25,10 +25,10 @@ returns c =
     let l = s .ring .now in
     let n = s .c in
     let e = c .before .before .before .before .end-half .ensures in
-    let xs = endRow n (part w (s .h) n) (part l (s .a) n) in
+    let xs = endRow n (part w (s .cur .lh) n) (part l (s .a) n) in
     let t : length xs ≡ n = length-tab n _ in
     let k : (o : ℕ) → o + n ≤ s .to → part (c .before .before .before .before .end-half .last .1 .0) o n ≡ part l o n = λ o b. part-kept l _ xs (s .to) o n e (omega arith) b in
-    put-next l _ _ xs (endRow n (part w (s .k) n) (part l (s .a + n) n)) (s .to) n t e
+    put-next l _ _ xs (endRow n (part w (s .cur .hh) n) (part l (s .a + n) n)) (s .to) n t e
     (rw (k (s .a + n) (omega arith)) at (c .before .end-half2 .ensures)) (omega arith)
 
 pub end-pair-spec : {M : Type 1} → statement M

@@ -12,15 +12,15 @@ use Rattle.ring.proofs.high_half.Tie as tie
 odd-row-requires : tie.Need-odd-row-requires
 odd-row-requires c κs =
     let s = c .before .before .args in
-    let n : s .h + s .c - s .h ≡ s .c = omega arith in
-    let t : length (part (s .work .now) (s .h) (s .c)) ≡ s .c = length-part (s .work .now) (s .h) (s .c) (omega arith) in
+    let n : s .high + s .c - s .high ≡ s .c = omega arith in
+    let t : length (part (s .work .now) (s .high) (s .c)) ≡ s .c = length-part (s .work .now) (s .high) (s .c) (omega arith) in
     rw (n, t) (omega arith, c .before .before .pre .1)
 
 returns : tie.Need-returns
 returns c =
     let s = c .before .before .before .before .args in
-    let n : s .h + s .c - s .h ≡ s .c = omega arith in
-    let t : length (part (s .work .now) (s .h) (s .c)) ≡ s .c = length-part (s .work .now) (s .h) (s .c) (omega arith) in
+    let n : s .high + s .c - s .high ≡ s .c = omega arith in
+    let t : length (part (s .work .now) (s .high) (s .c)) ≡ s .c = length-part (s .work .now) (s .high) (s .c) (omega arith) in
     rw (n, t) at (c .before .odd-row .ensures)
 
 pub high-half-spec : {M : Type 1} → statement M

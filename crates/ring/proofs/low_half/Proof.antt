@@ -15,11 +15,11 @@ returns c =
     let s = c .before .before .before .before .before .before .args in
     let w = s .work .now in
     let n : s .to + s .c - s .to ≡ s .c = omega arith in
-    let n1 : s .l + s .c - s .l ≡ s .c = omega arith in
-    let n2 : s .p + s .c - s .p ≡ s .c = omega arith in
-    let n3 : s .q + s .c - s .q ≡ s .c = omega arith in
+    let n1 : s .low + s .c - s .low ≡ s .c = omega arith in
+    let n2 : s .prev + s .c - s .prev ≡ s .c = omega arith in
+    let n3 : s .cur + s .c - s .cur ≡ s .c = omega arith in
     let t : length (part (s .ring .now) (s .to) (s .c)) ≡ s .c = length-part (s .ring .now) (s .to) (s .c) (omega arith) in
-    part-back (s .ring .now) _ (lowRow (s .c) (part w (s .l) (s .c)) (part w (s .p) (s .c)) (part w (s .q) (s .c))) (s .to) (s .to + s .c - s .to)
+    part-back (s .ring .now) _ (lowRow (s .c) (part w (s .low) (s .c)) (part w (s .prev) (s .c)) (part w (s .cur) (s .c))) (s .to) (s .to + s .c - s .to)
     (rw (n, n1, n2, n3, t) at (c .before .lift-low .ensures))
     (rw length-tab n)
 

@@ -13,7 +13,12 @@ returns c =
     let s = c .before .before .before .before .before .before .args in
     let w = s .work .now in
     let n = s .c in
-    put-next (s .ring .now) _ _ (lowRow n (part w (s .l) n) (part w (s .p) n) (part w (s .q) n)) (lowRow n (part w (s .m) n) (part w (s .r) n) (part w (s .s) n)) (s .to) (s .c) (length-tab (s .c) _) (c .before .before .before .before .low-half .ensures) (c .before .low-half2 .ensures) (omega arith)
+    let p = s .prev in
+    let q = s .cur in
+    let lo = lowRow n (part w (q .ll) n) (part w (p .lh) n) (part w (q .lh) n) in
+    let hi = lowRow n (part w (q .hl) n) (part w (p .hh) n) (part w (q .hh) n) in
+    let e = c .before .before .before .before .low-half .ensures in
+    put-next (s .ring .now) _ _ lo hi (s .to) n (length-tab n _) e (c .before .low-half2 .ensures) (omega arith)
 
 pub low-pair-spec : {M : Type 1} → statement M
 low-pair-spec =

@@ -17,7 +17,7 @@ returns : tie.Need-returns
 returns c =
     let b = c .before .before .before .before in
     let a = b .args in
-    let z = c .before .zeros in (
+    let z = c .before .zero-groups in (
       onward-run (a .packet .now) (a .selector) (a .dst .now) (a .out) (stateOf (a .width) (a .reader)) (b .pre .1 .1) (asRun (z .result)) (z .ensures .0) (b .pre .1 .0 .0) (c .before .before .if1 .taken)
           (omega (arith, b .pre .1 .0)) (z .ensures .1 .1 .0) (z .ensures .1 .1 .1),
       (omega (arith, z .ensures .1 .1), omega (arith, z .ensures .1 .1, b .pre .1 .0), z .ensures .1 .0),

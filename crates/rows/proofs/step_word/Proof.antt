@@ -48,7 +48,7 @@ cast-level-2 c = rw (move-is (c .before .before)) (sfits-widen tt (move-fits (fi
 add-level : tie.Need-add-level
 add-level c =
     let s = c .before .before in
-    rw (level-is s) (level-fits (s .args .width) (first s) (s .pre .0))
+    rw (level-is s) (level-fits (s .args .width) (first s) (s .pre .0 .1))
 
 -- the bits of the update
 bits-is : (c : tie.After-pick)
@@ -56,7 +56,7 @@ bits-is : (c : tie.After-pick)
     c .pick .result ≡ cond (leZ (level s) (pos 0)) (s .args .width + 1) (lengthOf (first s)))
 bits-is c =
     let s = c .before .before .before .before in
-    let f = level-fits (s .args .width) (first s) (s .pre .0) in
+    let f = level-fits (s .args .width) (first s) (s .pre .0 .1) in
     simp (level-is s, size-is s, toZ-ofZ) at (c .pick .ensures)
 
 -- the width by the update's zeros
@@ -75,9 +75,9 @@ returns-2 : tie.Need-returns-2
 returns-2 c =
     let p = c .before in
     let s = p .before .before .before .before in
-    let f = level-fits (s .args .width) (first s) (s .pre .0) in
+    let f = level-fits (s .args .width) (first s) (s .pre .0 .1) in
     let most : p .pick .result ≤ 16 = omega arith in
-    let e = change-table (rest s) (s .args .width) (omega arith) (rw (bits-is p) at most) in
+    let e = change-table (rest s) (s .args .width) (omega arith) (s .pre .0 .0) (rw (bits-is p) at most) in
     (simp (level-is s, toZ-ofZ, bits-is p) (e .0, ap (λ (n : ℕ). 4 * s .args .width + n) (e .1)), omega arith)
 
 pub step-word-spec : {M : Type 1} → statement M

@@ -9,22 +9,22 @@ use Rattle.strip.proofs.find_entry.Statement.{statement}
 use Rattle.strip.proofs.find_entry.Tie as tie
 
 abbrev Inv-loop : tie.InvT-loop
-Inv-loop strip full-w full-h i start end at₀ at = firstTaken (candidate strip full-w full-h i) at ((end + 16 - at) / 16) ≡ entryTile strip full-w full-h i
+Inv-loop strip full-w full-h i start last end at₀ at = firstTaken (candidate strip full-w full-h i) at ((end + 16 - at) / 16) ≡ entryTile strip full-w full-h i
 
 abbrev μ-loop : tie.MeasureT-loop
-μ-loop strip full-w full-h i start end at₀ at = end + 1 - at
+μ-loop strip full-w full-h i start last end at₀ at = end + 1 - at
 
 entry-start-requires : tie.Need-entry-start-requires Inv-loop μ-loop
 unfolding entryTile candidates
 entry-start-requires c κs = search needs
 
+sub-last : tie.Need-sub-last Inv-loop μ-loop
+unfolding entryTile candidates
+sub-last c = search needs
+
 add-least : tie.Need-add-least Inv-loop μ-loop
 unfolding entryTile candidates
 add-least c = omega (arith, c .entry-start .ensures .1)
-
-sub-least : tie.Need-sub-least Inv-loop μ-loop
-unfolding entryTile candidates
-sub-least c = search needs
 
 least-requires : tie.Need-least-requires Inv-loop μ-loop
 unfolding entryTile candidates
@@ -38,7 +38,7 @@ examine-requires : tie.Need-examine-requires Inv-loop μ-loop
 unfolding entryTile candidates
 examine-requires c κs =
     let pre = c .before .before .before .before .before .pre in
-    (pre .0, pre .1, omega (arith, c .before .before .least .ensures .1))
+    (pre .0, pre .1, omega (arith, c .before .before .least .ensures .1 .1))
 
 enum-told : tie.Need-enum-told Inv-loop μ-loop
 unfolding entryTile candidates
@@ -64,7 +64,7 @@ add-at : tie.Need-add-at Inv-loop μ-loop
 unfolding entryTile candidates
 add-at c =
     let least = c .before .before .before .before .before .least in
-    omega (arith, least .ensures .1)
+    omega (arith, least .ensures .1 .1)
 
 loop-less : tie.Need-loop-less Inv-loop μ-loop
 unfolding entryTile candidates
@@ -97,8 +97,8 @@ find-entry-spec =
     Inv-loop
     μ-loop
     entry-start-requires
+    sub-last
     add-least
-    sub-least
     least-requires
     loop-holds
     examine-requires

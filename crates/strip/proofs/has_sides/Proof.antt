@@ -7,19 +7,19 @@ use Rattle.strip.proofs.has_sides.Tie as tie
 
 returns : tie.Need-returns
 unfolding sides
-returns c = simp (← (c .before .before .field .ensures .0), eq-eqb _ _ (c .if1 .taken))
+returns c = simp (← (c .before .before .width .ensures .0), eq-eqb _ _ (c .if1 .taken))
 
 returns-2 : tie.Need-returns-2
 unfolding sides
 returns-2 c =
-    let field = c .before .before .before .field in
-    simp (← (field .ensures .0), ne-eqb _ _ (c .before .if1 .left), ne-eqb _ _ (c .if2 .taken))
+    let width = c .before .before .before .width in
+    simp (← (width .ensures .0), ne-eqb _ _ (c .before .if1 .left), ne-eqb _ _ (c .if2 .taken))
 
 returns-3 : tie.Need-returns-3
 unfolding sides
 returns-3 c =
-    let field = c .before .before .before .field in
-    simp (← (field .ensures .0), ← (c .before .before .field2 .ensures .0), ne-eqb _ _ (c .before .if1 .left), eq-eqb _ _ (c .if2 .left))
+    let width = c .before .before .before .width in
+    simp (← (width .ensures .0), ← (c .before .before .half-height .ensures .0), ne-eqb _ _ (c .before .if1 .left), eq-eqb _ _ (c .if2 .left))
 
 pub has-sides-spec : {M : Type 1} → statement M
 has-sides-spec =

@@ -1,7 +1,6 @@
 -- `strip::parse_stream_header` meets its contract. Assumes nothing.
-use mathlib.Core.Path.{_≡_, refl, ap}
+use mathlib.Core.Path.{_≡_, refl}
 use mathlib.Core.Bool.{true, false}
-use Prim.Native.Nat.{ℕ, _*_}
 use native.Mathlib.Omega.{arith}
 use borrow.Author.Needs.{needs}
 use borrow.Author.Tests.{le-leb, lt-leb, not-true, not-false}
@@ -62,12 +61,13 @@ returns-5 c =
     let has-marks = c .before .before .before .has-marks in
     let a = c .before .before .before .before .before .before .before .before .before .before .args in
     let if1 = c .before .before .before .before .before .before .before .before .if1 in
-    let field = c .before .field in
+    let width = c .before .width in
     let ok = not-false (is-magic .result) (if2 .left) in
     let even = not-false (has-sides .result) (if3 .left) in
     let marked = not-false (has-marks .result) (c .before .before .if4 .left) in
     let all : validHeader (a .stream .now) ≡ true = simp (le-leb _ _ (if1 .left), ← (is-magic .ensures), ok, ← (has-sides .ensures), even, ← (has-marks .ensures), marked) in
-    (simp (all, ← (field .ensures .0), ← (c .field2 .ensures .0)), (all, omega arith, field .ensures .0, ap (λ (n : ℕ). n * 2) (c .field2 .ensures .0), field .ensures .1, omega (arith, c .field2 .ensures .1), rw all refl))
+    let height = c .coded-height in
+    (simp (all, ← (width .ensures .0), ← (height .ensures .0)), (all, omega arith, width .ensures .0, height .ensures .0, width .ensures .1, height .ensures .1, rw all refl))
 
 pub parse-stream-header-spec : {M : Type 1} → statement M
 parse-stream-header-spec =
@@ -82,5 +82,4 @@ parse-stream-header-spec =
     returns-4
     (λ c κs. search needs)
     (λ c κs. search needs)
-    (λ c. search needs)
     returns-5)

@@ -5,6 +5,7 @@ use native.Mathlib.Omega.{arith}
 use Rattle.format.specs.Coefficients.{coefs}
 use Rattle.format.specs.Sizes.{green, red, blue}
 use Rattle.format.proofs.Exact.{planes-least}
+use Rattle.fields.proofs.SizeLaws.{tall-some}
 use Rattle.tile.proofs.GoingLaws.{index-records, averages-end, red-end, blue-end, near-green, green-end, going-on}
 use Rattle.tile.proofs.LentLaws.{ring-room, row-units}
 use borrow.Author.Needs.{needs}
@@ -45,7 +46,7 @@ final-rows-requires c κs =
     let p = h .pre in
     let z = s .z in
     let e = u .unit .ensures in
-    let n = c .rows-of .ensures in
+    let n = c .rows-of .ensures .0 in
     let w = row-units z (p .0) in (
       (p .0, omega (arith, e), omega (arith, e), omega (arith, e, w, p .3)),
       (omega (arith, planes-least (z .guarded) (z .n) (p .0 .0 .tall)), omega (arith, n), p .4 ∙ ap (λ (k : ℕ). k * z .w) (sym n)),
@@ -101,7 +102,7 @@ returns-4 c = λ t m g.
     let p = h .pre in
     let x = rw (k .match .keys4) at g in
     let near = near-green t (s .z) (p .0) m (p .1) _ _ _ _ x in
-    let done = rw (u .unit .ensures, n .rows-of .ensures) at (e .final-rows .ensures) in
+    let done = rw (u .unit .ensures, n .rows-of .ensures .0) at (e .final-rows .ensures) in
     rw (k .match .keys4) (green-end t (s .z) (p .0) m (p .1) _ _ _ _ x _ _ (done .1) (done .0 _ _ near))
 
 returns-5 : tie.Need-returns-5
@@ -133,7 +134,7 @@ packet-end-spec =
     part-colour-plane-end-2
     (λ c κs. search needs)
     (λ c. search needs)
-    (λ c κs. search needs)
+    (λ c κs. let f = c .before .before .before .before .before .pre .0 .0 in (tall-some _ _ (f .tall), f .few))
     final-rows-requires
     (λ c. search needs)
     (λ c. search needs)

@@ -13,18 +13,18 @@ use Rattle.bits.proofs.BitReader.read.Tie as tie
 returns : tie.Need-returns
 unfolding readOf
 returns c =
-    let f = c .before .before .before in
-    let a = f .before .before .args in
-    let v = c .before .top .ensures ∙ prefix (a .packet .now) (a .self .place) (f .refill .result .cache) (a .n) (f .refill .ensures .bits) (omega arith) in
+    let s = c .before .before .before .before in
+    let a = s .args in
+    let v = c .before .top .ensures ∙ prefix (a .packet .now) (a .self .place) (a .self .cache) (a .n) (s .pre .0 .bits) (omega arith) in
     (simp (le-leb _ _ (c .before .before .if1 .taken), v, c .skip .ensures .0), record { ready = search needs; bound = rw v (bits-lt (a .packet .now) (a .self .place) (a .n)) })
 
 returns-2 : tie.Need-returns-2
 unfolding readOf
 returns-2 c =
-    let f = c .before .before .before in
-    let a = f .before .before .args in
+    let s = c .before .before .before .before in
+    let a = s .args in
     let left = a .self .remaining in
-    let v = c .before .top2 .ensures ∙ prefix (a .packet .now) (a .self .place) (f .refill .result .cache) left (f .refill .ensures .bits) (omega arith) in
+    let v = c .before .top2 .ensures ∙ prefix (a .packet .now) (a .self .place) (a .self .cache) left (s .pre .0 .bits) (omega arith) in
     let e = shl-exact left (a .n - left) 64 (bits-lt (a .packet .now) (a .self .place) left) (omega arith) in
     let whole : left + (a .n - left) ≡ a .n = omega arith in
     let small = shl-lt left (a .n - left) (bits-lt (a .packet .now) (a .self .place) left) in
@@ -34,7 +34,6 @@ pub read-spec : {M : Type 1} → statement M
 read-spec =
     tie.close
     (tie.spec
-    (λ c κs. search needs)
     (λ c κs. search needs)
     (λ c κs. search needs)
     returns

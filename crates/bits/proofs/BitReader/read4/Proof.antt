@@ -12,18 +12,19 @@ use Rattle.bits.proofs.BitReader.read4.Tie as tie
 
 returns : tie.Need-returns
 returns c =
-    let g = c .before .before .before .before .before .before .before .before .before .before .args in
+    let start = c .before .before .before .before .before .before .before .before .before in
+    let g = start .args in
     let s = g .packet .now in
     let p = g .self .place in
-    let w = c .before .before .before .before .before .refill .result .cache in
-    let holds = c .before .before .before .before .before .refill .ensures .bits in
+    let w = g .self .cache in
+    let holds = start .pre .0 .bits in
     let a = c .before .before .before .before .top .ensures ∙ prefix s p w (g .n) holds (omega arith) in
     let b = c .before .before .before .top2 .ensures ∙ middle s p w (g .n) (g .n) holds (omega arith) in
     let c′ = c .before .before .top3 .ensures ∙ middle s p w (2 * g .n) (g .n) holds (omega arith) in
     let d = c .before .top4 .ensures ∙ middle s p w (3 * g .n) (g .n) holds (omega arith) in (
-      simp (a, b, c′, d, c .skip .ensures .0) (sym (four-within s (asReader (g .self)) (g .n) (c .before .before .before .before .before .before .if2 .taken))),
+      simp (a, b, c′, d, c .skip .ensures .0) (sym (four-within s (asReader (g .self)) (g .n) (c .before .before .before .before .before .if2 .taken))),
       record {
-        ready = record { size = c .before .before .before .before .before .before .before .before .before .before .pre .0 .size; room = omega (arith, c .skip .ensures .1, c .before .before .before .before .before .before .before .before .before .before .pre .0 .room) };
+        ready = c .skip .ensures .1;
         a = rw a (bits-lt s p (g .n));
         b = rw b (bits-lt s (p + g .n) (g .n));
         c = rw c′ (bits-lt s (p + 2 * g .n) (g .n));
@@ -47,7 +48,6 @@ read4-spec =
     tie.close
     (tie.spec
     (λ c. search needs)
-    (λ c κs. search needs)
     (λ c κs. search needs)
     (λ c. search needs)
     (λ c κs. search needs)

@@ -1,35 +1,42 @@
 -- `BitReader::width_update` meets its contract. Assumes nothing.
 use borrow.Author.Needs.{needs}
-use mathlib.Core.Path.{_∙_}
-use Rattle.bits.specs.View.{asReader, asTaken}
-use Rattle.format.proofs.UpdateLaws.{update-zero, update-stopped, update-second}
+use mathlib.Core.Path.{ap, sym, _∙_}
+use Prim.Native.Nat.{_≤_}
+use native.Mathlib.Omega.{arith}
+use lib.Dec.{lit≤}
+use Rattle.format.specs.Reader.{Reader, skipped}
+use Rattle.format.proofs.BitLaws.{prefix-of}
+use Rattle.bits.specs.View.{asReader, changeOf}
+use Rattle.bits.proofs.WordUpdate.{change-update}
 use Rattle.bits.proofs.BitReader.width_update.Statement.{statement}
 use Rattle.bits.proofs.BitReader.width_update.Tie as tie
 
-returns : tie.Need-returns
-returns c =
-    let x = c .before .before .before in
-    let g = x .before .before .args in
-    (update-zero (g .packet .now) (asReader (g .self)) (g .width) (asTaken (x .read .result)) (x .read .ensures .0) (c .if1 .taken), search needs)
-
-returns-2 : tie.Need-returns-2
-returns-2 c =
-    let x = c .before .before .before .before .before in
-    let g = x .before .before .args in
-    (update-stopped (g .packet .now) (asReader (g .self)) (g .width) (asTaken (x .read .result)) (x .read .ensures .0) (c .before .before .if1 .left) (c .if2 .taken), search needs)
-
 returns-3 : tie.Need-returns-3
 returns-3 c =
-    let x = c .before .before .before .before .before .before in
-    let g = x .before .before .args in
-    (c .width-second .ensures .0 ∙ update-second (g .packet .now) (asReader (g .self)) (g .width) (asTaken (x .read .result)) (x .read .ensures .0) (c .before .before .before .if1 .left) (c .before .if2 .left), c .width-second .ensures .1)
+    let b = c .before .before .before .before .before .before .before .before in
+    let s = b .args .packet .now in
+    let r = b .args .self in
+    let u = c .before .before .before .before .changed in
+    let l = c .before .before .before .least .ensures .1 in
+    let short : u .result .used ≤ 57 = omega (arith, c .before .if2 .left, l) in
+    let enough : u .result .used ≤ r .remaining = omega (arith, c .before .if2 .left, l) in
+    let room : changeOf (r .cache) (b .args .width) .used ≤ u .result .used = rw (u .ensures .0) (omega arith) in
+    let whole = change-update s (asReader r) (b .args .width) (r .cache) (u .result .used) (omega arith) (prefix-of s (r .place) (r .cache) (u .result .used) 57 (b .pre .0 .bits) short (lit≤ tt)) in (
+      ap (λ (t : Reader). record { value = u .result .width; reader = t }) (c .skip .ensures .0)
+          ∙ (λ i. record { value = u .ensures .0 i .width; reader = skipped (asReader r) (u .ensures .0 i .used) })
+          ∙ sym (whole (omega arith) enough (c .before .before .before .before .before .if1 .left) room),
+      c .skip .ensures .1,
+    )
 
 pub width-update-spec : {M : Type 1} → statement M
 width-update-spec =
     tie.close
     (tie.spec
     (λ c κs. search needs)
-    returns
-    returns-2
+    (λ c. search needs)
+    (λ c κs. search needs)
+    (λ c κs. search needs)
+    (λ c κs. search needs)
+    (λ c. search needs)
     (λ c κs. search needs)
     returns-3)

@@ -8,18 +8,17 @@ use Rattle.packets.proofs.directory.find_entry.Tie as tie
 
 returns : tie.Need-returns
 unfolding entryOf hasEntry
-returns c = simp (← (c .before .before .block-at .ensures .0), ← (c .before .entry-count .ensures .0), le-ltb _ _ (c .if1 .taken))
+returns c =
+    let count = c .before .entry-count in
+    let at = c .before .before .block-at in
+    (simp (← (at .ensures .0), ← (count .ensures .0), le-ltb _ _ (c .if1 .taken)), simp (← (at .ensures .0), ← (count .ensures .0), le-ltb _ _ (c .if1 .taken)))
 
 returns-2 : tie.Need-returns-2
 unfolding entryOf hasEntry
 returns-2 c =
-    simp (
-      ← (c .before .before .before .before .block-at .ensures .0),
-      ← (c .before .before .before .entry-count .ensures .0),
-      lt-ltb _ _ (c .before .before .if1 .left),
-      ← (c .before .packet-start .ensures .0),
-      ← (c .packet-length .ensures .0),
-    )
+    let count = c .before .entry-count in
+    let at = c .before .before .block-at in
+    (simp (← (at .ensures .0), ← (count .ensures .0), lt-ltb _ _ (c .if1 .left)), simp (← (at .ensures .0), ← (count .ensures .0), lt-ltb _ _ (c .if1 .left)))
 
 pub find-entry-spec : {M : Type 1} → statement M
 find-entry-spec =
@@ -28,6 +27,4 @@ find-entry-spec =
     (λ c κs. search needs)
     (λ c κs. search needs)
     returns
-    (λ c κs. search needs)
-    (λ c κs. search needs)
     returns-2)

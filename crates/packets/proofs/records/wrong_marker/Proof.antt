@@ -5,10 +5,10 @@ use Rattle.packets.proofs.records.wrong_marker.Statement.{statement}
 use Rattle.packets.proofs.records.wrong_marker.Tie as tie
 
 returns : tie.Need-returns
-returns c = simp (← (c .before .field .ensures .0), ne-eqb _ _ (c .if1 .taken))
+returns c = simp (← (c .before .marker .ensures .0), ne-eqb _ _ (c .if1 .taken))
 
 returns-2 : tie.Need-returns-2
-returns-2 c = simp (← (c .before .before .field .ensures .0), eq-eqb _ _ (c .before .if1 .left), ← (c .field2 .ensures .0))
+returns-2 c = simp (← (c .before .before .marker .ensures .0), eq-eqb _ _ (c .before .if1 .left), ← (c .zero8 .ensures .0))
 
 pub wrong-marker-spec : {M : Type 1} → statement M
 wrong-marker-spec =

@@ -11,7 +11,7 @@ returns-2 c =
     let s = c .before .args in
     let p = c .before .pre in
     let e : s .y ≡ s .y - 1 = omega (arith, c .if1 .left) in
-    (rw e at (p .5), rw e at (p .6))
+    rw e at (p .1)
 
 pub prior-spec : {M : Type 1} → statement M
 prior-spec = tie.close (tie.spec (λ c. search needs) (λ c κs. search needs) (λ c. search needs) returns-2)

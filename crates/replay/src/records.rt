@@ -1,0 +1,46 @@
+// Records: `coefficients::arw6_packet` on a packet, and the coefficients and the count that it should give. A case is six
+// little-endian words (the packet's length, kind, m, columns, records, stopped records), the packet's bytes, and a word for each
+// coefficient.
+ghost use Prim.Native.Nat.{_<_, _≤_, _^_};
+ghost use lib.ListN.{length};
+use crate::vectors::same;
+use crate::vectors::small;
+use crate::vectors::word;
+use coefficients::arw6_packet;
+
+// The bytes of the coefficients.
+pub fn answer_length(head: &[u8]) -> usize
+    requires { ⌜ 24 ≤ length (now head) ⌝ }
+    ensures { λ r. ⌜ r < 2 ^ 34 ⌝ }
+{
+    4 * (small(head, 16) * (small(head, 4) * small(head, 8) * small(head, 12)))
+}
+
+// Whether the packet gives the coefficients and the count that it should.
+fn right_band(head: &[u8], packet: &[u8], want: &[u8], band: &mut [i32]) -> bool
+    requires { ⌜ 24 ≤ length (now head) ⌝ }
+{
+    let n = want.len() / 4;
+    if band.len() < n {
+        return false;
+    }
+    let counted = arw6_packet(
+        packet,
+        small(head, 8),
+        small(head, 12),
+        small(head, 16),
+        &mut band[0..n],
+    );
+    if counted as usize != word(head, 20) + 1 {
+        return false;
+    }
+    same(&band[0..n], want)
+}
+
+// The same, with room for the coefficients.
+pub fn right_case(head: &[u8], packet: &[u8], want: &[u8]) -> bool
+    requires { ⌜ 24 ≤ length (now head) ⌝ }
+{
+    let mut band = [1i32; 1024];
+    right_band(head, packet, want, &mut band)
+}

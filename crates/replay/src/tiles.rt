@@ -1,0 +1,104 @@
+// Tiles: `tile::decode_stream` on a stream, and its answer and what the four lent slices should hold. A case is six little-endian words
+// (the stream's length, refusal, width, height, rows, stopped records), the stream's bytes, and a word for each number of green, red and
+// blue. A refused stream has 0 in the last four words, and no planes.
+ghost use Prim.Native.Nat.{_<_, _≤_, _^_};
+ghost use lib.ListN.{length};
+use crate::vectors::all;
+use crate::vectors::same;
+use crate::vectors::small;
+use crate::vectors::word;
+use tile::Decoded;
+use tile::decode_stream;
+
+// What the lent slices hold before the call, and where nothing is to be written also after it.
+const PATTERN: i32 = 77;
+
+// Whether the answer is the one of the case.
+fn right_answer(head: &[u8], answer: Decoded) -> bool
+    requires { ⌜ 24 ≤ length (now head) ⌝ }
+{
+    if answer.refusal != word(head, 4) as u64 {
+        return false;
+    }
+    if answer.width != word(head, 8) as u64 {
+        return false;
+    }
+    if answer.height != word(head, 12) as u64 {
+        return false;
+    }
+    if answer.rows != word(head, 16) as u64 {
+        return false;
+    }
+    answer.stopped == word(head, 20) as u64
+}
+
+// Whether a slice starts with the words of b, and holds the pattern after them.
+fn right_plane(plane: &[i32], b: &[u8]) -> bool {
+    let n = b.len() / 4;
+    if plane.len() < n {
+        return false;
+    }
+    if !same(&plane[0..n], b) {
+        return false;
+    }
+    all(&plane[n..], PATTERN)
+}
+
+// Whether the planes are those of the case: one half of its words is green's, one quarter each is red's and blue's.
+fn right_planes(green: &[i32], red: &[i32], blue: &[i32], want: &[u8]) -> bool {
+    let a = want.len() / 2;
+    let b = a + want.len() / 4;
+    if !right_plane(green, &want[0..a]) {
+        return false;
+    }
+    if !right_plane(red, &want[a..b]) {
+        return false;
+    }
+    right_plane(blue, &want[b..])
+}
+
+// Whether work starts with n zeros, and holds the pattern after them.
+fn right_work(work: &[i32], n: usize) -> bool {
+    if work.len() < n {
+        return false;
+    }
+    if !all(&work[0..n], 0) {
+        return false;
+    }
+    all(&work[n..], PATTERN)
+}
+
+// The numbers of work that a tile uses.
+fn work_length(head: &[u8]) -> usize
+    requires { ⌜ 24 ≤ length (now head) ⌝ }
+{
+    let w = small(head, 8);
+    let n = (small(head, 12) + 15) / 16;
+    16 * (n + 1) * w
+}
+
+// Decodes a stream into slices longer than it asks for, and compares.
+pub fn right_case(head: &[u8], stream: &[u8], want: &[u8]) -> bool
+    requires { ⌜ 24 ≤ length (now head) ⌝ }
+{
+    let mut green = [PATTERN; 1024];
+    let mut red = [PATTERN; 512];
+    let mut blue = [PATTERN; 512];
+    let mut work = [PATTERN; 4096];
+    let answer = decode_stream(stream, &mut green, &mut red, &mut blue, &mut work);
+    if !right_answer(head, answer) {
+        return false;
+    }
+    if !right_planes(&green, &red, &blue, want) {
+        return false;
+    }
+    right_work(&work, work_length(head))
+}
+
+// The bytes of the planes: green has rows · width words, red and blue have half as many each.
+pub fn answer_length(head: &[u8]) -> usize
+    requires { ⌜ 24 ≤ length (now head) ⌝ }
+    ensures { λ r. ⌜ r < 2 ^ 19 ⌝ }
+{
+    8 * (small(head, 8) * small(head, 16))
+}

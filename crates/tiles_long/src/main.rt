@@ -1,4 +1,0 @@
-// `tiles` on 65,537 bytes.
-fn main() {
-    listing::run();
-}

@@ -1,4 +1,0 @@
-// `tiles` on a strip with no tile in its frame.
-fn main() {
-    listing::run();
-}

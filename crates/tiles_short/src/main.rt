@@ -1,4 +1,0 @@
-// `tiles` on 7 bytes.
-fn main() {
-    listing::run();
-}

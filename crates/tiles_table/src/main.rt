@@ -1,4 +1,0 @@
-// `tiles` on a table of three tiles.
-fn main() {
-    listing::run();
-}
