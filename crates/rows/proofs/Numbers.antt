@@ -1,13 +1,10 @@
 -- Laws of the numbers of a row. Assumes nothing.
-use borrow.Author.Tests.{eq-eqb, ne-eqb, lt-ltb, le-ltb}
+use borrow.Author.Tests.{eq-eqb, ne-eqb}
 use mathlib.Core.Path.{_≡_}
-use mathlib.Core.Bool.{cond, or-true}
-use mathlib.Core.Logic.{⊎-elim}
-use lib.Dec.{ltb}
-use Rattle.format.proofs.BitLaws.{le-or-lt}
-use Prim.Native.Nat.{ℕ, _+_, _-_, _*_, _/_, _^_, _%_, _<_, _≤_}
+use mathlib.Core.Bool.{or-true}
+use Prim.Native.Nat.{ℕ, _+_, _-_, _*_, _^_, _%_, _<_, _≤_}
 use native.Mathlib.Omega.{arith}
-use native.Mathlib.Nat.{mul-le-mul-left, mul-one, mul-zero}
+use native.Mathlib.Nat.{mul-le-mul-left, mul-one}
 use lib.IntN.{pos}
 use lib.Pow.{shl-exact, pow-pos}
 use Rattle.wrap32.specs.Cut.{wrap}
@@ -33,15 +30,3 @@ value-none u sel e = simp (eq-eqb u 0 e, or-true, e)
 pub value-some : (u sel : ℕ) → (sel ≡ 0 → ⊥) → (u ≡ 0 → ⊥) → valueOf u sel ≡ wrap (pos ((2 * u + 1) * 2 ^ (sel - 1) - u % 2))
 unfolding valueOf
 value-some u sel m n = simp (ne-eqb sel 0 m, ne-eqb u 0 n)
-
--- a product by the first bit of a word
-pub bit-share : (m word : ℕ) → word < 2 ^ 64 → m * (word / 2 ^ 63) ≡ cond (ltb word (2 ^ 63)) 0 m
-bit-share m word fits =
-    ⊎-elim
-    (λ (h : 2 ^ 63 ≤ word).
-    let e : word / 2 ^ 63 ≡ 1 = omega arith in
-    simp (e, mul-one, le-ltb word (2 ^ 63) h))
-    (λ (h : word < 2 ^ 63).
-    let e : word / 2 ^ 63 ≡ 0 = omega arith in
-    simp (e, mul-zero, lt-ltb word (2 ^ 63) h))
-    (le-or-lt (2 ^ 63) word)

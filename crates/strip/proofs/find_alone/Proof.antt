@@ -20,7 +20,8 @@ unfolding alone
 returns c =
     let stream-at = c .before .before .before .stream-at in
     let a = c .before .before .before .before .before .args in
-    let same : _≡_ {A = LocatedTile} answer.Nothing (locatedTileOf (alone (a .strip .now) (a .full-w) (a .full-h))) = dropped _ _ (lone-invalid (a .strip .now) (a .full-w) (a .full-h) _ (told-not _ _ _ (stream-at .ensures) (c .enum-told .given .1) (c .before .before .parse-stream-header .ensures .1))) in
+    let same : _≡_ {A = LocatedTile} answer.Nothing (locatedTileOf (alone (a .strip .now) (a .full-w) (a .full-h))) =
+    dropped _ _ (lone-invalid (a .strip .now) (a .full-w) (a .full-h) _ (told-not _ _ _ (stream-at .ensures) (c .enum-told .given .1) (c .before .before .parse-stream-header .ensures .1))) in
     (same, ap answerNumber same ∙ number-is (alone (a .strip .now) (a .full-w) (a .full-h)))
 
 stream-length-requires : tie.Need-stream-length-requires
@@ -41,7 +42,8 @@ returns-2 c =
     let s = drop 512 (a .strip .now) in
     let sound = told _ s _ _ (stream-at .ensures) (h′ .given .1) (parse-stream-header .ensures .1) in
     let pay : stream-length .result - 128 ≡ payload s = rw (← (stream-at .ensures)) (omega (arith, stream-length .ensures .0)) in
-    let same : _≡_ {A = LocatedTile} answer.Nothing (locatedTileOf (alone (a .strip .now) (a .full-w) (a .full-h))) = dropped _ _ (lone-by (a .strip .now) (a .full-w) (a .full-h) s false (eqb (width s) (a .full-w)) (eqb (codedHeight s) (a .full-h)) (sound .0) (rw (← pay) (sym (holds-payload .ensures) ∙ not-true (holds-payload .result) (c .if1 .taken))) refl refl) in
+    let same : _≡_ {A = LocatedTile} answer.Nothing (locatedTileOf (alone (a .strip .now) (a .full-w) (a .full-h))) =
+    dropped _ _ (lone-by (a .strip .now) (a .full-w) (a .full-h) s false (eqb (width s) (a .full-w)) (eqb (codedHeight s) (a .full-h)) (sound .0) (rw (← pay) (sym (holds-payload .ensures) ∙ not-true (holds-payload .result) (c .if1 .taken))) refl refl) in
     (same, ap answerNumber same ∙ number-is (alone (a .strip .now) (a .full-w) (a .full-h)))
 
 returns-3 : tie.Need-returns-3
@@ -56,7 +58,8 @@ returns-3 c =
     let s = drop 512 (a .strip .now) in
     let sound = told _ s _ _ (stream-at .ensures) (h′ .given .1) (parse-stream-header .ensures .1) in
     let pay : stream-length .result - 128 ≡ payload s = rw (← (stream-at .ensures)) (omega (arith, stream-length .ensures .0)) in
-    let same : _≡_ {A = LocatedTile} answer.Nothing (locatedTileOf (alone (a .strip .now) (a .full-w) (a .full-h))) = dropped _ _ (lone-by (a .strip .now) (a .full-w) (a .full-h) s true false (eqb (codedHeight s) (a .full-h)) (sound .0) (rw (← pay) (sym (holds-payload .ensures) ∙ not-false (holds-payload .result) (c .before .before .if1 .left))) (rw (← (sound .2)) (ne-eqb _ _ (c .if2 .taken))) refl) in
+    let same : _≡_ {A = LocatedTile} answer.Nothing (locatedTileOf (alone (a .strip .now) (a .full-w) (a .full-h))) =
+    dropped _ _ (lone-by (a .strip .now) (a .full-w) (a .full-h) s true false (eqb (codedHeight s) (a .full-h)) (sound .0) (rw (← pay) (sym (holds-payload .ensures) ∙ not-false (holds-payload .result) (c .before .before .if1 .left))) (rw (← (sound .2)) (ne-eqb _ _ (c .if2 .taken))) refl) in
     (same, ap answerNumber same ∙ number-is (alone (a .strip .now) (a .full-w) (a .full-h)))
 
 returns-4 : tie.Need-returns-4
@@ -72,7 +75,8 @@ returns-4 c =
     let s = drop 512 (a .strip .now) in
     let sound = told _ s _ _ (stream-at .ensures) (h′ .given .1) (parse-stream-header .ensures .1) in
     let pay : stream-length .result - 128 ≡ payload s = rw (← (stream-at .ensures)) (omega (arith, stream-length .ensures .0)) in
-    let same : _≡_ {A = LocatedTile} answer.Nothing (locatedTileOf (alone (a .strip .now) (a .full-w) (a .full-h))) = dropped _ _ (lone-by (a .strip .now) (a .full-w) (a .full-h) s true true false (sound .0) (rw (← pay) (sym (holds-payload .ensures) ∙ not-false (holds-payload .result) (if1 .left))) (rw (← (sound .2)) (eq-eqb _ _ (c .before .before .if2 .left))) (rw (← (sound .3)) (ne-eqb _ _ (c .if3 .taken)))) in
+    let same : _≡_ {A = LocatedTile} answer.Nothing (locatedTileOf (alone (a .strip .now) (a .full-w) (a .full-h))) =
+    dropped _ _ (lone-by (a .strip .now) (a .full-w) (a .full-h) s true true false (sound .0) (rw (← pay) (sym (holds-payload .ensures) ∙ not-false (holds-payload .result) (if1 .left))) (rw (← (sound .2)) (eq-eqb _ _ (c .before .before .if2 .left))) (rw (← (sound .3)) (ne-eqb _ _ (c .if3 .taken)))) in
     (same, ap answerNumber same ∙ number-is (alone (a .strip .now) (a .full-w) (a .full-h)))
 
 returns-5 : tie.Need-returns-5

@@ -50,7 +50,9 @@ returns-4 c =
 returns-5 : tie.Need-returns-5
 unfolding groupRefusal
 returns-5 c =
-    let long = lengths-read (c .before .before .before .before .before .before .before .before .before .before .before .before .args .stream .now) (c .before .before .before .before .before .before .before .before .before .before .before .before .args .group) _ _ _ (c .before .before .before .before .before .before .before .before .before .before .block-at .ensures .0) (c .before .entries .ensures .0) in
+    let b = c .before .before .before .before .before .before .before .before .before .before in
+    let a = b .before .before .args in
+    let long = lengths-read (a .stream .now) (a .group) _ _ _ (b .block-at .ensures .0) (c .before .entries .ensures .0) in
     simp (
       ← (c .before .before .before .before .before .before .before .before .before .before .block-at .ensures .0),
       le-ltb _ _ (c .before .before .before .before .before .before .before .before .before .if1 .left),
@@ -68,7 +70,9 @@ returns-5 c =
 returns-6 : tie.Need-returns-6
 unfolding groupRefusal
 returns-6 c =
-    let long = lengths-read (c .before .before .before .before .before .before .before .before .before .before .before .before .args .stream .now) (c .before .before .before .before .before .before .before .before .before .before .before .before .args .group) _ _ _ (c .before .before .before .before .before .before .before .before .before .before .block-at .ensures .0) (c .before .entries .ensures .0) in
+    let b = c .before .before .before .before .before .before .before .before .before .before in
+    let a = b .before .before .args in
+    let long = lengths-read (a .stream .now) (a .group) _ _ _ (b .block-at .ensures .0) (c .before .entries .ensures .0) in
     simp (
       ← (c .before .before .before .before .before .before .before .before .before .before .block-at .ensures .0),
       le-ltb _ _ (c .before .before .before .before .before .before .before .before .before .if1 .left),
