@@ -1,12 +1,41 @@
 #!/bin/sh
-# Build the library for C, link the viewer with it, and run it on the strip of document 01's example, which stands in
-# crates/tiles/stdin behind the frame's width and height.
+# Build the viewer and run it on two strips, each of which stands in a file behind its frame's width and height: document 01's example, and
+# the joint, whose pictures go to target/viewer. The library is built too, unless ARW6_LIB_DIR says the folder where it stands.
 set -eu
+lib=
+if [ -n "${ARW6_LIB_DIR:-}" ]; then lib=$(cd "$ARW6_LIB_DIR" && pwd); fi
 cd "$(dirname "$0")/.."
-rt staticlib arw6
-mkdir -p target/viewer
-cc -std=c99 -Wall -Wextra -Werror -O2 -Iinclude examples/viewer.c target/staticlib/libarw6.a -o target/viewer/viewer
-tail -c +9 crates/tiles/stdin > target/viewer/strip
-target/viewer/viewer 16 16 target/viewer/strip > target/viewer/out
-cmp target/viewer/out examples/viewer.expected
+if [ -z "$lib" ]; then
+    rt staticlib arw6
+    lib=target/staticlib
+fi
+out=target/viewer
+mkdir -p "$out"
+cc -std=c99 -D_POSIX_C_SOURCE=200809L -Wall -Wextra -Werror -pedantic -O2 -Iinclude examples/viewer.c "$lib/libarw6.a" -o "$out/viewer"
+
+tail -c +9 crates/tiles/stdin > "$out/example.strip"
+tail -c +9 samples/joint.frame > "$out/joint.strip"
+"$out/viewer" 16 16 "$out/example.strip" > "$out/listing"
+"$out/viewer" 640 480 "$out/joint.strip" "$out/joint" >> "$out/listing"
+cmp "$out/listing" examples/viewer.expected
+(cd "$out" && sha256sum --quiet -c) < examples/viewer.sha256
+
+# told STATUS WORDS ARGUMENTS: the viewer ends with that status and says the words.
+told() {
+    status=$1 words=$2
+    shift 2
+    got=0
+    "$out/viewer" "$@" > "$out/printed" 2> "$out/told" || got=$?
+    if [ "$got" -ne "$status" ] || ! grep -qF "$words" "$out/told"; then
+        echo "viewer $*: status $got, not $status, or not '$words'" >&2
+        exit 1
+    fi
+}
+told 1 'is a folder' 16 16 examples
+told 1 'No such file' 16 16 "$out/missing"
+told 1 'refusal 1: no tile located in the strip' 17 16 "$out/example.strip"
+told 1 'tile 0: refusal 9: a packet is missing' 16 16 "$out/example.strip" "$out/example"
+told 1 'No such file' 640 480 "$out/joint.strip" "$out/missing/joint"
+told 2 'usage' 16 0x10 "$out/example.strip"
+told 2 'usage' 16
 echo "viewer: ok"

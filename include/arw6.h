@@ -1,12 +1,22 @@
 /* Tiles of Sony's ARW6 strips. Link with the archive that `rt staticlib arw6` writes.
 
    Every function takes any bytes, sizes and lengths, keeps no pointer after it returns, allocates nothing and ends. A pointer must be valid
-   for its length, also where that is 0, and the slices of one call must not overlap. */
+   for its length, also where that is 0, and the slices of one call must not overlap.
+
+   The functions keep no state and share none: they may be called from any number of threads at once, as long as no slice that one call
+   writes is lent to another at the same time.
+
+   The platform is x86-64 with the System V calling convention: size_t has 64 bits, and int32_t is two's complement. */
 #ifndef ARW6_H
 #define ARW6_H
 
 #include <stddef.h>
 #include <stdint.h>
+
+#define ARW6_VERSION "0.2.0"
+#define ARW6_VERSION_MAJOR 0
+#define ARW6_VERSION_MINOR 2
+#define ARW6_VERSION_PATCH 0
 
 #ifdef __cplusplus
 extern "C" {
@@ -29,24 +39,76 @@ size_t arw6_tile_count(const uint8_t *strip, size_t strip_len, size_t frame_widt
 /* Field 0 to 5 of a tile; ordinals count from 0. A tile or a field that isn't there gives 0. */
 size_t arw6_tile_field(const uint8_t *strip, size_t strip_len, size_t frame_width, size_t frame_height, size_t ordinal, size_t field);
 
-/* What decoding one tile answers. A refusal from 2 to 24 (the table is in README.md) comes with every other field 0. */
-struct arw6_decoded {
-    uint64_t refusal; /* 0: accepted */
+/* What to lend for one tile. Refusal 2 or 3 comes with every other field 0. Here and below, w and H are the coded size, and n is H / 16
+   rounded up. */
+struct arw6_lengths {
+    uint64_t refusal; /* 0: none of these two */
     uint64_t width;   /* the coded width w */
     uint64_t height;  /* the coded height H */
-    uint64_t rows;    /* R, the rows of the planes: 8 n, or 8 n - 4 where H is no multiple of 16; n is H / 16 rounded up */
+    uint64_t rows;    /* R, the rows of the planes: 8 n, or 8 n - 4 where H is no multiple of 16 */
+    uint64_t green;   /* the numbers to lend: R by w */
+    uint64_t red;     /* R by w / 2 */
+    uint64_t blue;    /* R by w / 2 */
+    uint64_t work;    /* 16 (n + 1) w */
+};
+
+/* The lengths for the stream of one tile, of stream_len bytes, which is only read. A refusal is also that of arw6_decode_stream, whatever
+   is lent; without one, slices of these lengths or longer are never too short for it. */
+struct arw6_lengths arw6_lengths(const uint8_t *stream, size_t stream_len);
+
+/* What decoding one tile answers. A refusal from 2 to 24 comes with every other field 0. */
+struct arw6_decoded {
+    uint64_t refusal; /* 0: accepted */
+    uint64_t width;   /* as in arw6_lengths */
+    uint64_t height;
+    uint64_t rows;
     uint64_t stopped; /* records that met a width above 19 or ran past their allowance */
 };
 
 /* Decodes the stream of one tile, of stream_len bytes.
 
-   Lent, and never kept: green for R by w numbers, red and blue for R by w / 2, row after row; work for 16 (n + 1) w. Lengths are in
+   Lent, and never kept: green, red and blue for the planes, row after row, and work, of the lengths that arw6_lengths says. Lengths are in
    numbers, and longer slices are fine. Refused, no element of any slice changes. Accepted, the planes stand at the start of their slices, the
    first 16 (n + 1) w numbers of work are 0, and elements past these lengths are as they were.
 
    In an ordinary frame, where no record has a selector above 4, every number of the planes lies strictly between -536,870,912 and
    536,870,912, so the sum and the difference of two fit int32_t. */
 struct arw6_decoded arw6_decode_stream(const uint8_t *stream, size_t stream_len, int32_t *green, size_t green_len, int32_t *red, size_t red_len, int32_t *blue, size_t blue_len, int32_t *work, size_t work_len);
+
+/* A refusal in words. */
+static inline const char *arw6_refusal_words(uint64_t refusal)
+{
+    static const char *const words[] = {
+        "accepted",
+        "no tile located in the strip",
+        "the stream's header is not valid",
+        "the green plane would hold more than 134,217,728 numbers",
+        "a lent slice is too short",
+        "the directory runs past the end of the stream",
+        "the directory lists more than 9 packets in a group",
+        "a packet runs past the end of the stream",
+        "the packets of a group are longer than the group",
+        "a packet is missing",
+        "a packet is shorter than 16 bytes",
+        "a record header runs past the end of its packet",
+        "a packet header's padding is not 0",
+        "a packet header's tag is not 4, or the zeros beside it are not 0",
+        "a packet's kind is neither 1 nor 3",
+        "a packet has no records, or more than 30,000",
+        "a packet header's marker is not 16, or the zeros after it are not 0",
+        "a packet's size is not its length in the directory",
+        "a record's bytes run past the end of its packet",
+        "a packet of kind 3 stands in group 0 or 4",
+        "the coded height is above 32,767",
+        "a packet's rows do not fit the coded height",
+        "a packet has more records than a stream of this length may have",
+        "a packet of kind 1 stands in group 1, 2 or 3",
+        "the coded height is under 16"
+    };
+    if (refusal >= sizeof words / sizeof words[0])
+        return "a number that this header has no words for";
+    return words[refusal];
+}
 
 #ifdef __cplusplus
 }

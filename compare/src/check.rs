@@ -2,7 +2,7 @@
 
 use crate::faults::Trial;
 use crate::oracle::{self, Answer};
-use crate::ours::{Decoded, Decoder, Slices};
+use crate::ours::{Decoded, Decoder, Lengths, Slices};
 use crate::strips::Strip;
 
 /// One case of the comparison.
@@ -41,6 +41,8 @@ pub fn check(decoder: &impl Decoder, case: &Case) -> Result<Seen, String> {
 }
 
 fn check_stream(decoder: &impl Decoder, trial: &Trial) -> Result<Seen, String> {
+    let lengths = Lengths::by(oracle::measure(&trial.stream));
+    equal("lengths", &decoder.lengths(&trial.stream), &lengths)?;
     let expected = oracle::decode(&trial.stream, trial.lent);
     let mut slices = lend(trial.lent);
     let decoded = decoder.decode_stream(&trial.stream, &mut slices);

@@ -69,13 +69,19 @@ pub fn header_size(stream: &[u8]) -> Option<Size> {
     parse_stream_header(stream).map(|(width, half)| Size { width, half })
 }
 
-/// The answer for a stream with lent slices of these lengths. Numbers 3 and 4 are document 01's
-/// own and come after 2.
-pub fn decode(stream: &[u8], lent: [usize; 4]) -> Answer {
+/// The size of a stream, or its refusal 2 or 3. Number 3 is document 01's own and comes after 2.
+pub fn measure(stream: &[u8]) -> std::result::Result<Size, u64> {
     let size = header_size(stream).ok_or(2u64)?;
     if size.too_large() {
         return Err(3);
     }
+    Ok(size)
+}
+
+/// The answer for a stream with lent slices of these lengths. Number 4 is document 01's own and
+/// comes after 3.
+pub fn decode(stream: &[u8], lent: [usize; 4]) -> Answer {
+    let size = measure(stream)?;
     if size.needed().iter().zip(lent).any(|(&needed, lent)| lent < needed) {
         return Err(4);
     }

@@ -15,8 +15,8 @@ pub use library::Library as Ours;
 #[cfg(feature = "mock")]
 pub use mock::Mock as Ours;
 
-use crate::size::Shape;
-pub use ffi::Decoded;
+use crate::size::{Shape, Size};
+pub use ffi::{Decoded, Lengths};
 
 /// The lent slices: green, red, blue and work.
 pub type Slices = [Vec<i32>; 4];
@@ -25,7 +25,21 @@ pub type Slices = [Vec<i32>; 4];
 pub trait Decoder {
     fn tile_count(&self, strip: &[u8], frame: (usize, usize)) -> usize;
     fn tile_field(&self, strip: &[u8], frame: (usize, usize), ordinal: usize, field: usize) -> usize;
+    fn lengths(&self, stream: &[u8]) -> Lengths;
     fn decode_stream(&self, stream: &[u8], slices: &mut Slices) -> Decoded;
+}
+
+impl Lengths {
+    /// The lengths for a stream of a size, or with refusal 2 or 3.
+    pub fn by(measured: Result<Size, u64>) -> Lengths {
+        let size = match measured {
+            Err(refusal) => return Lengths { refusal, ..Lengths::default() },
+            Ok(size) => size,
+        };
+        let [green, red, blue, work] = size.needed().map(|needed| needed as u64);
+        let (width, height, rows) = (size.width as u64, size.height() as u64, size.rows() as u64);
+        Lengths { refusal: 0, width, height, rows, green, red, blue, work }
+    }
 }
 
 /// What the benchmark asks of it besides.

@@ -110,8 +110,8 @@ pub fn check_all(decoder: &impl Decoder, cases: impl Iterator<Item = Case>) -> O
 mod tests {
     use super::*;
     use crate::check::{Case, Seen};
-    use crate::ours::mock::{Mistaken, Mock};
-    use crate::ours::{Decoded, Slices};
+    use crate::ours::mock::{Mismeasured, Mistaken, Mock};
+    use crate::ours::{Decoded, Lengths, Slices};
 
     #[test]
     fn every_refusal_is_reached() {
@@ -156,6 +156,22 @@ mod tests {
         }
     }
 
+    #[test]
+    fn mistaken_lengths_are_found() {
+        let mistakes: [fn(&mut Lengths); 5] = [
+            |lengths| lengths.refusal %= 3,
+            |lengths| lengths.width += lengths.refusal,
+            |lengths| lengths.red = lengths.green,
+            |lengths| lengths.work -= 16 * lengths.width,
+            |lengths| lengths.rows = lengths.height / 2,
+        ];
+        for (i, mistake) in mistakes.into_iter().enumerate() {
+            let (tally, failing) = run(&Mismeasured(mistake), 5, 2000);
+            let (_, what) = failing.expect("the mistake shows");
+            assert!(tally.mismatches > 0 && what.starts_with("lengths: "), "mistake {i}");
+        }
+    }
+
     /// A locator that gives up when the table fails.
     struct NoFallback;
 
@@ -171,6 +187,10 @@ mod tests {
 
         fn tile_field(&self, strip: &[u8], frame: (usize, usize), ordinal: usize, field: usize) -> usize {
             Mock.tile_field(strip, frame, ordinal, field)
+        }
+
+        fn lengths(&self, stream: &[u8]) -> Lengths {
+            Mock.lengths(stream)
         }
 
         fn decode_stream(&self, stream: &[u8], slices: &mut Slices) -> Decoded {

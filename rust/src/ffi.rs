@@ -1,5 +1,19 @@
 //! The C interface of the library `libarw6.a`, called with slices. compare/ takes this file too.
 
+/// What to lend for a stream; refusal 2 or 3 has 0 in all other fields. The height is the coded height H.
+#[repr(C)]
+#[derive(Debug, Clone, Copy, Default, PartialEq, Eq)]
+pub struct Lengths {
+    pub refusal: u64,
+    pub width: u64,
+    pub height: u64,
+    pub rows: u64,
+    pub green: u64,
+    pub red: u64,
+    pub blue: u64,
+    pub work: u64,
+}
+
 /// The answer for a stream; a refusal has 0 in all other fields. The height is the coded height H.
 #[repr(C)]
 #[derive(Debug, Clone, Copy, Default, PartialEq, Eq)]
@@ -21,6 +35,7 @@ extern "C" {
         ordinal: usize,
         field: usize,
     ) -> usize;
+    fn arw6_lengths(stream: *const u8, stream_len: usize) -> Lengths;
     fn arw6_decode_stream(
         stream: *const u8,
         stream_len: usize,
@@ -45,6 +60,12 @@ pub fn tile_count(strip: &[u8], frame: (usize, usize)) -> usize {
 pub fn tile_field(strip: &[u8], frame: (usize, usize), ordinal: usize, field: usize) -> usize {
     // SAFETY: as for the count.
     unsafe { arw6_tile_field(strip.as_ptr(), strip.len(), frame.0, frame.1, ordinal, field) }
+}
+
+/// The lengths for one tile.
+pub fn lengths(stream: &[u8]) -> Lengths {
+    // SAFETY: as for the count.
+    unsafe { arw6_lengths(stream.as_ptr(), stream.len()) }
 }
 
 /// One tile into the planes' slices, with the work slice.

@@ -1,10 +1,15 @@
 //! How many numbers a caller lends for a stream.
 
-use crate::{decode_stream_into, Refusal};
+use crate::{ffi, Refusal};
 
-/// The numbers that the three planes and the work slice take, at least.
+/// The coded size of a stream, the rows of its planes, and the numbers that the three planes and the
+/// work slice take, at least.
 #[derive(Debug, Clone, Copy, PartialEq, Eq)]
+#[non_exhaustive]
 pub struct Lengths {
+    pub width: usize,
+    pub height: usize,
+    pub rows: usize,
     pub green: usize,
     pub red: usize,
     pub blue: usize,
@@ -14,40 +19,54 @@ pub struct Lengths {
 impl Lengths {
     /// The lengths for a stream, or its refusal 2 or 3, with which it has none.
     pub fn of(stream: &[u8]) -> Result<Lengths, Refusal> {
-        match decode_stream_into(stream, &mut [], &mut [], &mut [], &mut []) {
-            Err(refusal) if refusal != Refusal::SHORT_SLICE => Err(refusal),
-            _ => Ok(Lengths::of_size(be16(stream, 8), be16(stream, 10))),
+        let lengths = ffi::lengths(stream);
+        match lengths.refusal {
+            0 => Ok(Lengths {
+                width: lengths.width as usize,
+                height: lengths.height as usize,
+                rows: lengths.rows as usize,
+                green: lengths.green as usize,
+                red: lengths.red as usize,
+                blue: lengths.blue as usize,
+                work: lengths.work as usize,
+            }),
+            number => Err(Refusal::new(number)),
         }
     }
-
-    /// The lengths for the width and the half height of a valid header. A height that is no
-    /// multiple of 16 has guard rows, and four plane rows fewer.
-    fn of_size(width: usize, half_height: usize) -> Lengths {
-        let height = 2 * half_height;
-        let n = height.div_ceil(16);
-        let rows = if height.is_multiple_of(16) { 8 * n } else { 8 * n - 4 };
-        let half_plane = rows * (width / 2);
-        Lengths { green: rows * width, red: half_plane, blue: half_plane, work: 16 * (n + 1) * width }
-    }
-}
-
-fn be16(stream: &[u8], at: usize) -> usize {
-    u16::from_be_bytes([stream[at], stream[at + 1]]) as usize
 }
 
 #[cfg(test)]
 mod tests {
     use super::*;
 
+    /// A valid stream header with a width and a half height, and nothing else.
+    fn header(width: u16, half_height: u16) -> Vec<u8> {
+        let mut stream = vec![0; 128];
+        stream[..4].copy_from_slice(b"A000");
+        stream[8..10].copy_from_slice(&width.to_be_bytes());
+        stream[10..12].copy_from_slice(&half_height.to_be_bytes());
+        stream[12..16].copy_from_slice(&[1, 0, 0x6c, 0]);
+        stream
+    }
+
     #[test]
     fn rows_of_plain_and_guarded_heights() {
-        let green = |height: usize| Lengths::of_size(16, height / 2).green / 16;
-        assert_eq!([14, 16, 18, 26, 32].map(green), [4, 8, 12, 12, 16]);
+        let rows = |height: u16| Lengths::of(&header(16, height / 2)).unwrap().rows;
+        assert_eq!([14, 16, 18, 26, 32].map(rows), [4, 8, 12, 12, 16]);
     }
 
     #[test]
     fn each_length() {
-        let lengths = Lengths { green: 192, red: 96, blue: 96, work: 768 };
-        assert_eq!(Lengths::of_size(16, 13), lengths);
+        let (width, height, rows) = (16, 26, 12);
+        let lengths = Lengths { width, height, rows, green: 192, red: 96, blue: 96, work: 768 };
+        assert_eq!(Lengths::of(&header(16, 13)), Ok(lengths));
+    }
+
+    #[test]
+    fn refusals_2_and_3() {
+        let number = |stream: &[u8]| Lengths::of(stream).unwrap_err().number();
+        assert_eq!(number(&header(16, 13)[..127]), 2);
+        assert_eq!(number(&header(0, 13)), 2);
+        assert_eq!(number(&header(65520, 65535)), 3);
     }
 }

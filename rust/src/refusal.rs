@@ -2,41 +2,11 @@
 
 use std::fmt;
 
-/// Why a strip or a stream was refused.
+/// Why a strip or a stream was refused: a number and its meaning.
 #[derive(Debug, Clone, Copy, PartialEq, Eq, Hash)]
 pub struct Refusal(u64);
 
-/// The meaning of each number, number 1 first.
-pub const MEANINGS: [&str; 24] = [
-    "no tile located in the strip",
-    "the stream's header is not valid",
-    "the green plane would hold more than 134,217,728 numbers",
-    "a lent slice is too short",
-    "the directory runs past the end of the stream",
-    "the directory lists more than 9 packets in a group",
-    "a packet runs past the end of the stream",
-    "the packets of a group are longer than the group",
-    "a packet is missing",
-    "a packet is shorter than 16 bytes",
-    "a record header runs past the end of its packet",
-    "a packet header's padding is not 0",
-    "a packet header's tag is not 4, or the zeros beside it are not 0",
-    "a packet's kind is neither 1 nor 3",
-    "a packet has no records, or more than 30,000",
-    "a packet header's marker is not 16, or the zeros after it are not 0",
-    "a packet's size is not its length in the directory",
-    "a record's bytes run past the end of its packet",
-    "a packet of kind 3 stands in group 0 or 4",
-    "the coded height is above 32,767",
-    "a packet's rows do not fit the coded height",
-    "a packet has more records than a stream of this length may have",
-    "a packet of kind 1 stands in group 1, 2 or 3",
-    "the coded height is under 16",
-];
-
 impl Refusal {
-    pub(crate) const SHORT_SLICE: Refusal = Refusal(4);
-
     /// No tile located: what an empty list of [`crate::find_streams`] stands for.
     pub const NO_TILE: Refusal = Refusal(1);
 
@@ -49,8 +19,39 @@ impl Refusal {
     }
 
     pub fn meaning(self) -> &'static str {
-        MEANINGS.get(self.0 as usize - 1).copied().unwrap_or("a number that this version has no words for")
+        meaning(self.0).unwrap_or("a number that this version has no words for")
     }
+}
+
+/// The meaning of a refusal's number; None where this version knows no such refusal.
+pub fn meaning(number: u64) -> Option<&'static str> {
+    Some(match number {
+        1 => "no tile located in the strip",
+        2 => "the stream's header is not valid",
+        3 => "the green plane would hold more than 134,217,728 numbers",
+        4 => "a lent slice is too short",
+        5 => "the directory runs past the end of the stream",
+        6 => "the directory lists more than 9 packets in a group",
+        7 => "a packet runs past the end of the stream",
+        8 => "the packets of a group are longer than the group",
+        9 => "a packet is missing",
+        10 => "a packet is shorter than 16 bytes",
+        11 => "a record header runs past the end of its packet",
+        12 => "a packet header's padding is not 0",
+        13 => "a packet header's tag is not 4, or the zeros beside it are not 0",
+        14 => "a packet's kind is neither 1 nor 3",
+        15 => "a packet has no records, or more than 30,000",
+        16 => "a packet header's marker is not 16, or the zeros after it are not 0",
+        17 => "a packet's size is not its length in the directory",
+        18 => "a record's bytes run past the end of its packet",
+        19 => "a packet of kind 3 stands in group 0 or 4",
+        20 => "the coded height is above 32,767",
+        21 => "a packet's rows do not fit the coded height",
+        22 => "a packet has more records than a stream of this length may have",
+        23 => "a packet of kind 1 stands in group 1, 2 or 3",
+        24 => "the coded height is under 16",
+        _ => return None,
+    })
 }
 
 impl fmt::Display for Refusal {
@@ -74,8 +75,10 @@ mod tests {
 
     #[test]
     fn no_two_meanings_are_alike() {
-        for (i, meaning) in MEANINGS.iter().enumerate() {
-            assert!(!MEANINGS[..i].contains(meaning));
+        let meanings: Vec<&str> = (1..).map_while(meaning).collect();
+        assert_eq!((meaning(0), meanings.len()), (None, 24));
+        for (i, words) in meanings.iter().enumerate() {
+            assert!(!meanings[..i].contains(words));
         }
     }
 }

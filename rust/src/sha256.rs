@@ -1,5 +1,9 @@
 //! SHA-256 as FIPS 180-4 defines it.
 
+mod portable;
+#[cfg(target_arch = "x86_64")]
+mod x86;
+
 const BLOCK: usize = 64;
 
 #[rustfmt::skip]
@@ -14,44 +18,86 @@ const K: [u32; 64] = [
     0x748f82ee, 0x78a5636f, 0x84c87814, 0x8cc70208, 0x90befffa, 0xa4506ceb, 0xbef9a3f7, 0xc67178f2,
 ];
 
+type Block = [u8; BLOCK];
+type State = [u32; 8];
+
+const START: State =
+    [0x6a09e667, 0xbb67ae85, 0x3c6ef372, 0xa54ff53a, 0x510e527f, 0x9b05688c, 0x1f83d9ab, 0x5be0cd19];
+
+/// How blocks are hashed. Both ways give the same.
+#[derive(Clone, Copy)]
+enum Path {
+    Portable,
+    #[cfg(target_arch = "x86_64")]
+    Instructions(x86::Instructions),
+}
+
+impl Path {
+    /// The fastest that this processor has.
+    fn fastest() -> Self {
+        #[cfg(target_arch = "x86_64")]
+        if let Some(instructions) = x86::Instructions::found() {
+            return Path::Instructions(instructions);
+        }
+        Path::Portable
+    }
+
+    fn compress(self, state: &mut State, blocks: &[Block]) {
+        match self {
+            Path::Portable => portable::compress(state, blocks),
+            #[cfg(target_arch = "x86_64")]
+            Path::Instructions(instructions) => instructions.compress(state, blocks),
+        }
+    }
+}
+
 /// A hash of the bytes given so far.
 pub struct Sha256 {
-    state: [u32; 8],
-    block: [u8; BLOCK],
+    path: Path,
+    state: State,
+    /// The bytes after the last full block, `filled` of them.
+    block: Block,
     filled: usize,
     length: u64,
 }
 
 impl Default for Sha256 {
     fn default() -> Self {
-        let state =
-            [0x6a09e667, 0xbb67ae85, 0x3c6ef372, 0xa54ff53a, 0x510e527f, 0x9b05688c, 0x1f83d9ab, 0x5be0cd19];
-        Sha256 { state, block: [0; BLOCK], filled: 0, length: 0 }
+        Sha256::by(Path::fastest())
     }
 }
 
 impl Sha256 {
-    pub fn update(&mut self, mut bytes: &[u8]) {
+    fn by(path: Path) -> Self {
+        Sha256 { path, state: START, block: [0; BLOCK], filled: 0, length: 0 }
+    }
+
+    pub fn update(&mut self, bytes: &[u8]) {
         self.length += bytes.len() as u64;
-        while !bytes.is_empty() {
-            let (head, rest) = bytes.split_at(bytes.len().min(BLOCK - self.filled));
-            self.block[self.filled..self.filled + head.len()].copy_from_slice(head);
-            self.filled += head.len();
-            bytes = rest;
-            if self.filled == BLOCK {
-                compress(&mut self.state, &self.block);
-                self.filled = 0;
-            }
+        let to_fill = if self.filled > 0 { bytes.len().min(BLOCK - self.filled) } else { 0 };
+        let (head, rest) = bytes.split_at(to_fill);
+        self.keep(head);
+        let (blocks, tail) = rest.as_chunks();
+        self.path.compress(&mut self.state, blocks);
+        self.keep(tail);
+    }
+
+    /// Takes bytes that do not go past the end of the kept block.
+    fn keep(&mut self, bytes: &[u8]) {
+        let end = self.filled + bytes.len();
+        self.block[self.filled..end].copy_from_slice(bytes);
+        self.filled = end % BLOCK;
+        if end == BLOCK {
+            self.path.compress(&mut self.state, &[self.block]);
         }
     }
 
     /// The hash, after a one bit, zeros and the length in bits.
     pub fn finish(mut self) -> [u8; 32] {
         let bits = 8 * self.length;
+        let zeros = (2 * BLOCK - 9 - self.filled) % BLOCK;
         self.update(&[0x80]);
-        while self.filled != BLOCK - 8 {
-            self.update(&[0]);
-        }
+        self.update(&[0; BLOCK][..zeros]);
         self.update(&bits.to_be_bytes());
         let mut hash = [0; 32];
         for (bytes, word) in hash.chunks_mut(4).zip(self.state) {
@@ -61,51 +107,28 @@ impl Sha256 {
     }
 }
 
-/// The message schedule of a block.
-fn schedule(block: &[u8; BLOCK]) -> [u32; 64] {
-    let mut w = [0; 64];
-    for (word, bytes) in w.iter_mut().zip(block.chunks(4)) {
-        *word = u32::from_be_bytes([bytes[0], bytes[1], bytes[2], bytes[3]]);
-    }
-    for t in 16..64 {
-        let (a, b): (u32, u32) = (w[t - 15], w[t - 2]);
-        let s0 = a.rotate_right(7) ^ a.rotate_right(18) ^ (a >> 3);
-        let s1 = b.rotate_right(17) ^ b.rotate_right(19) ^ (b >> 10);
-        w[t] = w[t - 16].wrapping_add(s0).wrapping_add(w[t - 7]).wrapping_add(s1);
-    }
-    w
-}
-
-fn compress(state: &mut [u32; 8], block: &[u8; BLOCK]) {
-    let [mut a, mut b, mut c, mut d, mut e, mut f, mut g, mut h] = *state;
-    for (k, w) in K.iter().zip(schedule(block)) {
-        let s1 = e.rotate_right(6) ^ e.rotate_right(11) ^ e.rotate_right(25);
-        let choice = (e & f) ^ (!e & g);
-        let t1 = h.wrapping_add(s1).wrapping_add(choice).wrapping_add(*k).wrapping_add(w);
-        let s0 = a.rotate_right(2) ^ a.rotate_right(13) ^ a.rotate_right(22);
-        let majority = (a & b) ^ (a & c) ^ (b & c);
-        let t2 = s0.wrapping_add(majority);
-        (h, g, f, e) = (g, f, e, d.wrapping_add(t1));
-        (d, c, b, a) = (c, b, a, t1.wrapping_add(t2));
-    }
-    for (word, more) in state.iter_mut().zip([a, b, c, d, e, f, g, h]) {
-        *word = word.wrapping_add(more);
-    }
-}
-
 #[cfg(test)]
 mod tests {
     use super::*;
+    use std::time::Instant;
 
-    fn hex(message: &[u8], piece: usize) -> String {
-        let mut hash = Sha256::default();
-        message.chunks(piece).for_each(|part| hash.update(part));
-        hash.finish().iter().map(|byte| format!("{byte:02x}")).collect()
+    /// The hash of a message given in pieces of these lengths, over and over.
+    fn hash(path: Path, message: &[u8], lengths: &[usize]) -> [u8; 32] {
+        let mut hash = Sha256::by(path);
+        let mut rest = message;
+        for length in lengths.iter().cycle() {
+            let (piece, after) = rest.split_at(rest.len().min(*length));
+            hash.update(piece);
+            rest = after;
+            if rest.is_empty() {
+                break;
+            }
+        }
+        hash.finish()
     }
 
-    /// The standard's examples: one block, two blocks, none, and a million letters.
-    #[test]
-    fn vectors_of_the_standard() {
+    /// The standard's examples: none, one block, two blocks, and a million letters.
+    fn vectors(path: Path) {
         let long = "abcdefghbcdefghicdefghijdefghijkefghijklfghijklmghijklmnhijklmno\
                     ijklmnopjklmnopqklmnopqrlmnopqrsmnopqrstnopqrstu";
         let million = "a".repeat(1_000_000);
@@ -120,9 +143,89 @@ mod tests {
             (&million, "cdc76e5c9914fb9281a1c7e284d73e67f1809a48a497200e046d39ccc7112cd0"),
         ];
         for (message, expected) in vectors {
-            for piece in [1, 63, 64, 65, 1 << 20] {
-                assert_eq!(hex(message.as_bytes(), piece), expected);
+            for length in [1, 63, 64, 65, 1 << 20] {
+                let hash = hash(path, message.as_bytes(), &[length]);
+                let hex: String = hash.iter().map(|byte| format!("{byte:02x}")).collect();
+                assert_eq!(hex, expected);
             }
         }
+    }
+
+    #[test]
+    fn vectors_of_the_standard_in_plain_rust() {
+        vectors(Path::Portable);
+    }
+
+    #[test]
+    fn vectors_of_the_standard_by_the_fastest_path() {
+        vectors(Path::fastest());
+    }
+
+    /// Pseudo-random numbers (xorshift).
+    struct Random(u64);
+
+    impl Random {
+        fn below(&mut self, limit: usize) -> usize {
+            self.0 ^= self.0 << 13;
+            self.0 ^= self.0 >> 7;
+            self.0 ^= self.0 << 17;
+            (self.0 >> 32) as usize % limit
+        }
+
+        fn message(&mut self, length: usize) -> Vec<u8> {
+            (0..length).map(|_| self.below(256) as u8).collect()
+        }
+    }
+
+    /// Plain Rust in one piece, held against every path in pieces of 0 to `longest` bytes.
+    fn paths_agree(random: &mut Random, length: usize, longest: usize) {
+        let message = random.message(length);
+        let expected = hash(Path::Portable, &message, &[usize::MAX]);
+        for path in [Path::Portable, Path::fastest()] {
+            // The 1 is there for lengths that are all 0.
+            let lengths: Vec<usize> = (0..20).map(|_| random.below(longest + 1)).chain([1]).collect();
+            assert_eq!(hash(path, &message, &[usize::MAX]), expected, "{length} bytes");
+            assert_eq!(hash(path, &message, &lengths), expected, "{length} bytes in {lengths:?}");
+        }
+    }
+
+    #[test]
+    fn paths_agree_on_every_short_length() {
+        let mut random = Random(1);
+        (0..=300).for_each(|length| paths_agree(&mut random, length, 150));
+    }
+
+    #[test]
+    fn paths_agree_on_long_messages() {
+        let mut random = Random(2);
+        for length in [1 << 12, 100_003, 1 << 20, (1 << 20) + 63] {
+            for longest in [70, 1000, 100_000] {
+                paths_agree(&mut random, length, longest);
+            }
+        }
+    }
+
+    /// How fast each path is, and the digest of planes of as many bytes:
+    /// `cargo test --release -- --ignored digest_rates --nocapture`.
+    #[test]
+    #[ignore = "a measurement"]
+    fn digest_rates() {
+        let numbers: Vec<i32> = (0..32_768_000).map(|i: i32| i.wrapping_mul(747_796_405)).collect();
+        let bytes: Vec<u8> = numbers.iter().flat_map(|number| number.to_le_bytes()).collect();
+        let (green, others) = numbers.split_at(numbers.len() / 2);
+        let (red, blue) = others.split_at(others.len() / 2);
+        let rate = |what: &str, work: &dyn Fn() -> [u8; 32]| {
+            let seconds = |_| {
+                let start = Instant::now();
+                std::hint::black_box(work());
+                start.elapsed().as_secs_f64()
+            };
+            let best = (0..9).map(seconds).fold(f64::INFINITY, f64::min);
+            println!("{what}: {best:.3} s, {:.0} MB/s", bytes.len() as f64 / best / 1e6);
+        };
+        println!("{} bytes, best of 9", bytes.len());
+        rate("plain Rust", &|| hash(Path::Portable, &bytes, &[usize::MAX]));
+        rate("the fastest path", &|| hash(Path::fastest(), &bytes, &[usize::MAX]));
+        rate("digest of planes", &|| crate::digest(0, 0, green, red, blue));
     }
 }

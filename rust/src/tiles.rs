@@ -4,6 +4,7 @@ use crate::ffi;
 
 /// A tile stream inside the strip.
 #[derive(Debug, Clone, Copy, PartialEq, Eq)]
+#[non_exhaustive]
 pub struct TileStream {
     pub offset: usize,
     pub length: usize,
@@ -11,6 +12,13 @@ pub struct TileStream {
     pub y: usize,
     pub width: usize,
     pub height: usize,
+}
+
+impl TileStream {
+    /// The tile's bytes in the strip that it was located in.
+    pub fn stream<'a>(&self, strip: &'a [u8]) -> &'a [u8] {
+        &strip[self.offset..self.offset + self.length]
+    }
 }
 
 /// Locates the tile streams of a strip that covers a frame of `full_w` by `full_h`. An empty list

@@ -2,7 +2,7 @@
 
 mod support;
 
-use arw6::{decode_stream, decode_stream_into, find_streams, Lengths, TileStream};
+use arw6::{decode_stream, decode_stream_into, find_streams, Buffers, Lengths};
 use support::{flat_stream, header, stream, strip, DIGESTS, FRAME};
 
 #[test]
@@ -20,8 +20,10 @@ fn tiles_of_the_sample() {
 fn the_example_strip() {
     let mut strip = vec![0; 512];
     strip.extend(header(16, 16));
-    let tile = TileStream { offset: 512, length: 128, x: 0, y: 0, width: 16, height: 16 };
-    assert_eq!(find_streams(&strip, 16, 16), [tile]);
+    let tiles = find_streams(&strip, 16, 16);
+    let fields: Vec<_> = tiles.iter().map(|t| [t.offset, t.length, t.x, t.y, t.width, t.height]).collect();
+    assert_eq!(fields, [[512, 128, 0, 0, 16, 16]]);
+    assert_eq!(tiles[0].stream(&strip), header(16, 16));
     assert_eq!(find_streams(&strip, 16, 18), []);
     assert_eq!(find_streams(&strip[..639], 16, 16), []);
     assert_eq!(find_streams(&[], 16, 16), []);
@@ -32,7 +34,7 @@ fn planes_of_the_sample_have_the_fixed_digests() {
     for (k, line) in DIGESTS.lines().enumerate() {
         let tile = decode_stream(&stream(k), false).unwrap();
         let hash: String = tile.digest().iter().map(|byte| format!("{byte:02x}")).collect();
-        assert!(line.starts_with(&hash), "{hash}");
+        assert_eq!(line.split(' ').nth(1), Some(hash.as_str()));
         assert_eq!((tile.width, tile.height, tile.stopped), (320, 480, 0));
         assert_eq!((tile.full_green.rows, tile.full_green.cols), (240, 320));
         for plane in [&tile.red, &tile.blue] {
@@ -78,5 +80,23 @@ fn planes_in_lent_slices() {
     for (slice, data) in [(green, full_green), (red, others[0]), (blue, others[1]), (work, &zeros)] {
         assert!(slice[..data.len()] == data[..]);
         assert_eq!(slice[data.len()..], [7; 5]);
+    }
+}
+
+/// Buffers that are used again hold the same planes, whatever they held before.
+#[test]
+fn planes_in_buffers() {
+    let mut buffers = Buffers::default();
+    let streams = [stream(0), flat_stream(48, 26), stream(1), flat_stream(1024, 64), stream(0)];
+    for stream in &streams {
+        let tile = decode_stream(stream, false).unwrap();
+        let planes = buffers.decode(stream).unwrap();
+        let said = planes.decoded;
+        assert_eq!((said.width, said.height), (tile.width, tile.height));
+        assert_eq!((said.rows, said.stopped), (tile.full_green.rows, tile.stopped));
+        assert!(planes.green == tile.full_green.data);
+        assert!(planes.red == tile.red.data && planes.blue == tile.blue.data);
+        assert_eq!(planes.digest(), tile.digest());
+        assert!(buffers.decode(&stream[..100]).is_err());
     }
 }

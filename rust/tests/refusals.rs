@@ -2,7 +2,7 @@
 
 mod support;
 
-use arw6::{decode_stream, decode_stream_into, Lengths, MEANINGS};
+use arw6::{decode_stream, decode_stream_into, meaning, Error, Lengths};
 use support::{flat_stream, header, stream};
 
 /// Where the first packet's parts stand in a stream.
@@ -74,9 +74,9 @@ fn refused() -> Vec<(u64, Vec<u8>)> {
 fn each_number() {
     let mut seen = vec![1, 4];
     for (number, stream) in refused() {
-        let refusal = decode_stream(&stream, false).unwrap_err();
-        assert_eq!(refusal.number(), number);
-        assert_eq!(refusal.to_string(), format!("refusal {number}: {}", MEANINGS[number as usize - 1]));
+        let error = decode_stream(&stream, false).unwrap_err();
+        assert!(matches!(error, Error::Refused(refusal) if refusal.number() == number));
+        assert_eq!(error.to_string(), format!("refusal {number}: {}", meaning(number).unwrap()));
         seen.push(number);
     }
     assert!((1..=24).all(|number| seen.contains(&number)));

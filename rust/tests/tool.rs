@@ -1,54 +1,20 @@
-//! The tool `arw6`, run as a program.
+//! The tool `arw6`, run as a program: listings, planes, digests, JSON, and what it says.
 
 mod support;
 
 use arw6::decode_stream;
 use std::fs;
-use std::path::{Path, PathBuf};
-use std::process::Command;
-use support::{stream, strip, DIGESTS, SAMPLE};
+use std::io::Write;
+use std::process::{Command, Stdio};
+use support::tiff::{camera_file, ORDERS};
+use support::tool::{file, folder, names, outcome, run, word, NAMES, SAMPLE_FILE, TOOL};
+use support::{damaged, spoilt, stream, strip, FRAME, SAMPLE};
 
-const SAMPLE_FILE: &str = concat!(env!("CARGO_MANIFEST_DIR"), "/../samples/joint.frame");
-const LISTING: &str = "tiles 2\n512 92336 0 0 320 480\n92848 95072 320 0 320 480\n";
+const LISTING: &str = "tiles 2\n512 92336 0 0 320 480 stopped 0\n92848 95072 320 0 320 480 stopped 0\n";
 
-/// Status, standard output and standard error.
-type Outcome = (i32, String, String);
-
-fn run(words: &[&str]) -> Outcome {
-    let output = Command::new(env!("CARGO_BIN_EXE_arw6")).args(words).output().unwrap();
-    let text = |bytes| String::from_utf8(bytes).unwrap();
-    (output.status.code().unwrap(), text(output.stdout), text(output.stderr))
-}
-
-/// An empty folder of the test's own.
-fn folder(name: &str) -> PathBuf {
-    let folder = Path::new(env!("CARGO_TARGET_TMPDIR")).join(name);
-    let _ = fs::remove_dir_all(&folder);
-    fs::create_dir_all(&folder).unwrap();
-    folder
-}
-
-fn file(folder: &Path, name: &str, bytes: &[u8]) -> String {
-    let path = folder.join(name);
-    fs::write(&path, bytes).unwrap();
-    path.to_str().unwrap().to_string()
-}
-
-/// The sample with its second tile's first packet missing.
-fn spoilt() -> Vec<u8> {
-    let mut bytes = SAMPLE.to_vec();
-    let second = 8 + 512 + stream(0).len();
-    bytes[second + 48] = 0;
-    bytes
-}
-
-fn names(folder: &Path) -> Vec<String> {
-    let mut names: Vec<String> = fs::read_dir(folder)
-        .unwrap()
-        .map(|entry| entry.unwrap().file_name().into_string().unwrap())
-        .collect();
-    names.sort();
-    names
+/// Each file below samples/ is named from the repository's root in samples/joint.digest.
+fn digests(path: &str) -> String {
+    support::DIGESTS.replace("samples/joint.frame", path)
 }
 
 #[test]
@@ -60,51 +26,121 @@ fn listing() {
 fn listing_of_a_bare_strip() {
     let path = file(&folder("bare"), "joint.strip", strip());
     assert_eq!(run(&["tiles", "--frame", "640x480", &path]).1, LISTING);
+    assert_eq!(run(&["tiles", "--frame=640x480", &path]).1, LISTING);
     let (status, out, error) = run(&["tiles", "--frame", "624x480", &path]);
-    assert_eq!((status, out.as_str()), (1, "tiles 0\n"));
-    assert_eq!(error, format!("arw6: {path}: refusal 1: no tile located in the strip\n"));
+    assert_eq!((status, out.as_str()), (1, ""));
+    assert!(error.starts_with(&format!("arw6: {path}: refusal 1: no tile located in the strip (")));
+    assert!(error.contains("truncated copy"));
 }
 
 #[test]
-fn several_files_show_progress_and_names() {
+fn camera_files() {
+    let folder = folder("camera");
+    for order in ORDERS {
+        let path = file(&folder, format!("{order:?}.ARW"), &camera_file(order, FRAME, strip()));
+        assert_eq!(run(&["tiles", &path]), (0, LISTING.to_string(), String::new()));
+        assert_eq!(run(&["digest", &path]).1, digests(&path));
+    }
+}
+
+/// A camera file that is cut, one without a raw image, and files that are neither.
+#[test]
+fn files_that_cannot_be_opened() {
+    let folder = folder("unopened");
+    let whole = camera_file(ORDERS[0], FRAME, strip());
+    let cut = file(&folder, "cut.ARW", &whole[..whole.len() - 1]);
+    let other = file(&folder, "other.ARW", &camera_file(ORDERS[1], FRAME, &[7; 4000]));
+    let big = file(&folder, "big.ARW", b"II\x2b\0\x08\0\0\0\x10\0\0\0\0\0\0\0");
+    let text = file(&folder, "notes.txt", &[b'x'; 5000]);
+    let (short, empty) = (file(&folder, "short", b"1234567"), file(&folder, "empty", b""));
+    let cut_frame = file(&folder, "cut.frame", &SAMPLE[..150_000]);
+    let files = [&cut, &other, &big, &text, &short, &empty, &cut_frame].map(String::as_str);
+    let (status, out, error) = run(&[&["tiles", "-j1"], &files[..], &[word(&folder), "/dev/zero"]].concat());
+    assert_eq!((status, out.as_str()), (1, ""));
+    let expected = [
+        format!("{cut}: refusal 1: no tile located in the strip (the file has {} bytes, ", whole.len() - 1),
+        format!("{other}: refusal 1: no tile located in the strip (no image in the file has ARW6 tiles)"),
+        format!("{big}: refusal 1: no tile located in the strip (a BigTIFF, "),
+        format!("{text}: not an ARW file, nor a frame file"),
+        format!("{short}: not an ARW file, nor a frame file"),
+        format!("{empty}: the file is empty (a truncated copy?)"),
+        format!("{cut_frame}: refusal 1: no tile located in the strip (a truncated copy, "),
+        format!("{}: is a folder; -r goes through folders", word(&folder)),
+        "/dev/zero: is a device".to_string(),
+    ];
+    let lines: Vec<&str> = error.lines().collect();
+    assert_eq!(lines.len(), expected.len());
+    for (line, expected) in lines.iter().zip(expected) {
+        assert!(line.starts_with(&format!("arw6: {expected}")), "{line}");
+    }
+    assert!(lines[0].ends_with("a truncated copy?)"));
+}
+
+#[test]
+fn several_files_in_the_order_given() {
     let folder = folder("several");
     let (good, short) = (file(&folder, "good", SAMPLE), file(&folder, "short", b"1234567"));
-    let (status, out, error) = run(&["tiles", &good, &short, "nowhere"]);
-    assert_eq!(status, 1);
-    assert_eq!(out, format!("{good}:\n{LISTING}"));
-    let lines: Vec<&str> = error.lines().collect();
-    assert_eq!(lines[0], format!("1 of 3 {good}"));
-    assert_eq!(lines[1], format!("2 of 3 {short}"));
-    assert_eq!(lines[2], format!("arw6: {short}: too short for a frame file: 7 bytes"));
-    assert_eq!(lines[3], "3 of 3 nowhere");
-    assert!(lines[4].starts_with("arw6: nowhere: ") && lines.len() == 5);
+    for jobs in ["-j1", "-j3"] {
+        let (status, out, error) = run(&["tiles", jobs, &good, &short, "nowhere", SAMPLE_FILE]);
+        assert_eq!(status, 1);
+        assert_eq!(out, format!("{good}:\n{LISTING}{SAMPLE_FILE}:\n{LISTING}"));
+        let lines: Vec<&str> = error.lines().collect();
+        assert_eq!(lines[0], format!("arw6: {short}: not an ARW file, nor a frame file"));
+        assert!(lines[1].starts_with("arw6: nowhere: ") && lines.len() == 2);
+    }
 }
 
 #[test]
-fn digests() {
-    assert_eq!(run(&["digest", SAMPLE_FILE]), (0, DIGESTS.to_string(), String::new()));
+fn standard_input() {
+    let feed = |words: &[&str], bytes: &[u8]| {
+        let mut command = Command::new(TOOL);
+        command.args(words).stdin(Stdio::piped()).stdout(Stdio::piped()).stderr(Stdio::piped());
+        let mut child = command.spawn().unwrap();
+        child.stdin.take().unwrap().write_all(bytes).unwrap();
+        outcome(child.wait_with_output().unwrap())
+    };
+    assert_eq!(feed(&["tiles", "-"], SAMPLE), (0, LISTING.to_string(), String::new()));
+    assert_eq!(feed(&["digest", "-"], SAMPLE).1, digests("-"));
+    let out = folder("standard-input");
+    assert_eq!(feed(&["planes", "-", "-o", word(&out)], SAMPLE).0, 0);
+    assert_eq!(names(out.join("stdin.planes")), NAMES);
+    assert_eq!(feed(&["tiles", "-"], b"").2, "arw6: -: the file is empty (a truncated copy?)\n");
 }
 
 #[test]
 fn planes() {
     let out = folder("planes").join("made/here");
-    let words = ["planes", SAMPLE_FILE, "--out", out.to_str().unwrap()];
-    let (status, lines, error) = run(&words);
-    assert_eq!((status, error.as_str(), lines.lines().count()), (0, "", 6));
-    assert_eq!(names(&out).len(), 12);
+    let (status, lines, error) = run(&["planes", SAMPLE_FILE, "--out", word(&out)]);
+    assert_eq!((status, error.as_str()), (0, ""));
+    let target = out.join("joint.frame.planes");
+    let expected = format!(
+        "{}\n  tile 0 at 0,0: 320x480, rows 240, green -1639 to 1662, red 1 to 102, blue -74 to 3, stopped 0\n  \
+         tile 1 at 320,0: 320x480, rows 240, green -1638 to 1262, red 1 to 219, blue -156 to 2, stopped 0\n",
+        target.display()
+    );
+    assert_eq!(lines, expected);
+    assert_eq!(names(&target), NAMES);
     for k in 0..2 {
         let tile = decode_stream(&stream(k), false).unwrap();
         for (colour, plane) in [("green", tile.full_green), ("red", tile.red), ("blue", tile.blue)] {
-            let stem = format!("joint.frame.tile{k}.{colour}");
-            assert!(lines.contains(&format!("{stem}.npy rows 240 columns {} ", plane.cols)));
             let exact: Vec<u8> = plane.data.iter().flat_map(|number| number.to_le_bytes()).collect();
-            assert!(fs::read(out.join(format!("{stem}.npy"))).unwrap()[128..] == exact);
-            let picture = fs::read(out.join(format!("{stem}.pgm"))).unwrap();
-            assert_eq!(picture.len(), format!("P5\n{} 240\n4095\n", plane.cols).len() + exact.len() / 2);
+            assert!(fs::read(target.join(format!("tile{k}.{colour}.npy"))).unwrap()[128..] == exact);
         }
+        let picture = fs::read(target.join(format!("tile{k}.png"))).unwrap();
+        assert_eq!(picture[16..24], [0, 0, 1, 64, 0, 0, 1, 224]);
     }
-    assert_eq!(run(&words).1, lines);
-    assert_eq!(names(&out).len(), 12);
+    let told = fs::read_to_string(target.join("tiles.json")).unwrap();
+    for line in support::DIGESTS.lines() {
+        assert!(told.contains(&format!("\"digest\":\"{}\"", line.split(' ').nth(1).unwrap())));
+    }
+}
+
+#[test]
+fn planes_without_pictures() {
+    let out = folder("no-picture");
+    assert_eq!(run(&["planes", SAMPLE_FILE, "--out", word(&out), "--no-picture"]).0, 0);
+    let without: Vec<&str> = NAMES.into_iter().filter(|name| !name.ends_with(".png")).collect();
+    assert_eq!(names(out.join("joint.frame.planes")), without);
 }
 
 #[test]
@@ -112,11 +148,13 @@ fn a_refused_file_writes_nothing() {
     let folder = folder("refused");
     let path = file(&folder, "spoilt.frame", &spoilt());
     let out = folder.join("out");
-    let (status, lines, error) = run(&["planes", &path, "--out", out.to_str().unwrap()]);
+    let (status, lines, error) = run(&["planes", &path, "--out", word(&out)]);
     assert_eq!((status, lines.as_str()), (1, ""));
     assert_eq!(error, format!("arw6: {path}: tile 1: refusal 9: a packet is missing\n"));
-    assert!(!out.exists());
-    assert_eq!(run(&["digest", &path]), (1, String::new(), error));
+    assert!(names(&out).is_empty());
+    assert_eq!(run(&["digest", &path]), (1, String::new(), error.clone()));
+    let listing = "tiles 2\n512 92336 0 0 320 480 stopped 0\n92848 95072 320 0 320 480 refused 9\n";
+    assert_eq!(run(&["tiles", &path]), (1, listing.to_string(), error));
 }
 
 #[test]
@@ -124,48 +162,110 @@ fn good_files_are_written_beside_a_refused_one() {
     let folder = folder("beside");
     let path = file(&folder, "spoilt.frame", &spoilt());
     let out = folder.join("out");
-    let (status, lines, _) = run(&["planes", &path, SAMPLE_FILE, "--out", out.to_str().unwrap()]);
-    assert_eq!((status, lines.lines().count()), (1, 6));
-    assert!(names(&out).iter().all(|name| name.starts_with("joint.frame.tile")));
+    assert_eq!(run(&["planes", &path, SAMPLE_FILE, "--out", word(&out)]).0, 1);
+    assert_eq!(names(&out), ["joint.frame.planes"]);
+}
+
+/// A picture with damage does not look whole: each command says so, and `--strict` makes it fail.
+#[test]
+fn damage() {
+    let folder = folder("damage");
+    let path = file(&folder, "flipped.frame", &damaged());
+    let stopped = decode_stream(&damaged()[8 + 92848..], false).unwrap().stopped;
+    assert!(stopped > 0);
+    let warning = format!(
+        "arw6: warning: {path}: records stopped early (tile 1: {stopped}); the picture may be damaged\n"
+    );
+    let out = folder.join("out");
+    let commands: [&[&str]; 3] = [&["tiles"], &["digest"], &["planes", "--force", "--out", word(&out)]];
+    for command in commands {
+        let words = [command, &[path.as_str()]].concat();
+        let (status, lines, error) = run(&words);
+        assert_eq!((status, &error), (0, &warning));
+        assert!(lines.contains("stopped 0") && lines.contains(&format!("stopped {stopped}")));
+        let strict = run(&[&words[..], &["--strict"]].concat());
+        assert_eq!(strict, (1, lines, error));
+    }
+    let told = fs::read_to_string(out.join("flipped.frame.planes/tiles.json")).unwrap();
+    assert!(told.contains(&format!("\"stopped\":{stopped}")));
+    assert_eq!(run(&["tiles", "--strict", SAMPLE_FILE]).0, 0);
 }
 
 #[test]
-fn a_folder_that_cannot_be_written() {
-    let folder = folder("no-folder");
-    let path = file(&folder, "a-file", b"");
-    let (status, lines, error) = run(&["planes", SAMPLE_FILE, "--out", &path]);
-    assert_eq!((status, lines.as_str(), error.lines().count()), (1, "", 1));
-    assert!(error.contains(&path), "{error}");
+fn json() {
+    let folder = folder("json");
+    let (good, bad) = (file(&folder, "good", SAMPLE), file(&folder, "bad \"q\"", &spoilt()));
+    let (status, out, _) = run(&["tiles", "--json", &good, &bad, "nowhere"]);
+    let lines: Vec<&str> = out.lines().collect();
+    assert_eq!((status, lines.len()), (1, 3));
+    let first = "\"tile\":0,\"offset\":512,\"length\":92336,\"x\":0,\"y\":0,\"width\":320,\"height\":480,\"rows\":240,\"stopped\":0}";
+    assert!(lines[0].starts_with(&format!(
+        "{{\"file\":\"{good}\",\"frame\":{{\"width\":640,\"height\":480}},\"tiles\":[{{{first},"
+    )));
+    assert!(lines[1].contains("bad \\\"q\\\"") && lines[1].contains("\"refusal\":9"));
+    assert!(lines[2].starts_with("{\"file\":\"nowhere\",\"error\":\""));
+    let (_, out, _) = run(&["digest", "--json", &good]);
+    let digest = support::DIGESTS.split(' ').nth(1).unwrap();
+    let fields = format!("\"tile\":0,\"tiles\":2,\"definition\":\"ARW6-planes-1\",\"digest\":\"{digest}\",\"width\":320,\"height\":480,\"rows\":240,\"stopped\":0");
+    assert_eq!(out.lines().next(), Some(format!("{{\"file\":\"{good}\",{fields}}}").as_str()));
+    let out = run(&["planes", "--json", &good, "-o", word(&folder.join("out"))]).1;
+    assert!(out.contains("\"folder\":\"") && out.contains("\"green\":{\"least\":-1639,\"greatest\":1662}"));
 }
 
-/// A name that cannot be taken: no temporary file is left behind.
 #[test]
-fn a_name_that_is_taken_by_a_folder() {
-    let out = folder("taken");
-    fs::create_dir(out.join("joint.frame.tile0.green.npy")).unwrap();
-    let (status, _, error) = run(&["planes", SAMPLE_FILE, "--out", out.to_str().unwrap()]);
-    assert_eq!((status, error.lines().count()), (1, 1));
-    assert_eq!(names(&out), ["joint.frame.tile0.green.npy"]);
+fn folders_are_gone_through() {
+    let (card, out) = (folder("card"), folder("card-out"));
+    let whole = camera_file(ORDERS[0], FRAME, strip());
+    file(&card, "DCIM/101/b.arw", &whole);
+    file(&card, "DCIM/100/a.ARW", &whole);
+    file(&card, "joint.frame", SAMPLE);
+    file(&card, "DCIM/100/readme.txt", b"not this one");
+    file(&card, "DCIM/100/._a.ARW", b"nor this one");
+    std::os::unix::fs::symlink(&card, card.join("DCIM/again")).unwrap();
+    let (status, lines, error) = run(&["digest", "-r", word(&card)]);
+    assert_eq!((status, error.as_str()), (0, ""));
+    let paths = ["DCIM/100/a.ARW", "DCIM/101/b.arw", "joint.frame"].map(|name| card.join(name));
+    assert_eq!(lines, paths.map(|path| digests(word(&path))).concat());
+    assert_eq!(run(&["planes", "-r", word(&card), "--out", word(&out)]).0, 0);
+    assert_eq!(names(out.join("DCIM/100")), ["a.ARW.planes"]);
+    assert_eq!(names(out.join("DCIM/101/b.arw.planes")), NAMES);
+    let empty = folder("card-empty");
+    let (status, _, error) = run(&["tiles", "-r", word(&empty)]);
+    assert_eq!((status, error), (1, format!("arw6: {}: no .ARW or .frame file below\n", word(&empty))));
 }
 
 #[test]
 fn usage() {
-    let wrong: [&[&str]; 9] = [
+    let wrong: [&[&str]; 19] = [
         &[],
         &["tile"],
         &["tiles"],
         &["tiles", "a", "--out", "b"],
         &["tiles", "a", "--frame", "640"],
         &["tiles", "a", "--frame"],
+        &["tiles", "a", "--json=yes"],
+        &["tiles", "a", "-j", "0"],
+        &["tiles", "a", "-jx"],
+        &["tiles", "-", "-"],
+        &["tiles", "-x", "a"],
         &["planes", "a"],
+        &["planes", "a", "--out", ""],
+        &["planes", "a", "--out="],
         &["planes", "x/a", "y/a", "--out", "b"],
         &["digest", "a", "--fast"],
+        &["digest", "a", "--quiet"],
+        &["digest", "a", "--force"],
+        &["digest", "--check", "-r", "a"],
     ];
     for words in wrong {
         let (status, out, error) = run(words);
         assert_eq!((status, out.as_str(), error.lines().count()), (2, "", 1), "{words:?}");
         assert!(error.starts_with("arw6: "));
     }
+    let dashed = folder("dashed");
+    file(&dashed, "-j", SAMPLE);
+    let output = Command::new(TOOL).args(["tiles", "--", "-j"]).current_dir(&dashed).output().unwrap();
+    assert_eq!(outcome(output).1, LISTING);
 }
 
 #[test]
@@ -175,5 +275,44 @@ fn help() {
         assert_eq!((status, error.as_str()), (0, ""));
         assert!(out.starts_with("arw6") && out.lines().all(|line| line.len() <= 92));
     }
-    assert_eq!(run(&["--version"]).1, format!("arw6 {}\n", env!("CARGO_PKG_VERSION")));
+    for word in ["--version", "-V"] {
+        assert_eq!(run(&[word]).1, format!("arw6 {}\n", env!("CARGO_PKG_VERSION")));
+    }
+}
+
+/// The picture's greens are the sensor's, and red and blue its differences from them.
+#[test]
+fn pictures_at_true_proportions() {
+    let out = folder("picture");
+    assert_eq!(run(&["planes", SAMPLE_FILE, "--out", word(&out)]).0, 0);
+    let tile = decode_stream(&stream(0), false).unwrap();
+    let pixels = support::png_pixels(&fs::read(out.join("joint.frame.planes/tile0.png")).unwrap());
+    let at = |row: usize, column: usize| &pixels[row * (1 + 3 * 320) + 1 + 3 * column..][..3];
+    let shade = |number: i32| ((number + 2048).clamp(0, 4095) >> 4) as u8;
+    for (y, x) in [(0, 0), (60, 50), (104, 100), (111, 100), (239, 159)] {
+        let green = tile.full_green.row(y);
+        let (red, blue) = (tile.red.row(y)[x], tile.blue.row(y)[x]);
+        let (upper, lower) = (green[2 * x + 1], green[2 * x]);
+        assert_eq!(at(2 * y, 2 * x + 1), [shade(upper + 2 * red), shade(upper), shade(upper + 2 * blue)]);
+        assert_eq!(at(2 * y + 1, 2 * x), [shade(lower + 2 * red), shade(lower), shade(lower + 2 * blue)]);
+    }
+    let mean = [
+        tile.full_green.row(59)[100],
+        tile.full_green.row(60)[100],
+        tile.full_green.row(60)[99],
+        tile.full_green.row(60)[101],
+    ];
+    assert_eq!(at(120, 100)[1], shade(mean.iter().sum::<i32>().div_euclid(4)));
+    assert_eq!(pixels.len(), 480 * (1 + 3 * 320));
+}
+
+/// Several tiles that are refused are one line, and the listing has them all.
+#[test]
+fn the_first_refusal_is_told() {
+    let mut bytes = spoilt();
+    bytes[8 + 512 + 48] = 0;
+    let path = file(&folder("both"), "both.frame", &bytes);
+    let (status, out, error) = run(&["tiles", &path]);
+    assert_eq!((status, out.matches(" refused 9\n").count()), (1, 2));
+    assert_eq!(error, format!("arw6: {path}: tile 0: refusal 9: a packet is missing\n"));
 }

@@ -1,6 +1,6 @@
 //! The static libraries `libarw6.a` and `libcoefficients.a`.
 
-use super::{ffi, Decoded, Decoder, PacketDecoder, Slices};
+use super::{ffi, Decoded, Decoder, Lengths, PacketDecoder, Slices};
 use crate::size::Shape;
 
 extern "C" {
@@ -25,6 +25,10 @@ impl Decoder for Library {
 
     fn tile_field(&self, strip: &[u8], frame: (usize, usize), ordinal: usize, field: usize) -> usize {
         ffi::tile_field(strip, frame, ordinal, field)
+    }
+
+    fn lengths(&self, stream: &[u8]) -> Lengths {
+        ffi::lengths(stream)
     }
 
     fn decode_stream(&self, stream: &[u8], [green, red, blue, work]: &mut Slices) -> Decoded {

@@ -1,6 +1,6 @@
 //! The original behind the library's interface, so that the driver can be tested alone.
 
-use super::{Decoded, Decoder, PacketDecoder, Slices};
+use super::{Decoded, Decoder, Lengths, PacketDecoder, Slices};
 use crate::oracle;
 use crate::size::Shape;
 
@@ -14,6 +14,10 @@ impl Decoder for Mock {
     fn tile_field(&self, strip: &[u8], frame: (usize, usize), ordinal: usize, field: usize) -> usize {
         let tiles = oracle::tiles(strip, frame);
         tiles.get(ordinal).and_then(|tile| tile.get(field)).copied().unwrap_or(0)
+    }
+
+    fn lengths(&self, stream: &[u8]) -> Lengths {
+        Lengths::by(oracle::measure(stream))
     }
 
     fn decode_stream(&self, stream: &[u8], slices: &mut Slices) -> Decoded {
@@ -66,9 +70,38 @@ impl Decoder for Mistaken {
         Mock.tile_field(strip, frame, ordinal, field)
     }
 
+    fn lengths(&self, stream: &[u8]) -> Lengths {
+        Mock.lengths(stream)
+    }
+
     fn decode_stream(&self, stream: &[u8], slices: &mut Slices) -> Decoded {
         let mut decoded = Mock.decode_stream(stream, slices);
         (self.0)(stream, slices, &mut decoded);
         decoded
+    }
+}
+
+/// A decoder with one mistake in its lengths.
+#[cfg(test)]
+pub struct Mismeasured(pub fn(&mut Lengths));
+
+#[cfg(test)]
+impl Decoder for Mismeasured {
+    fn tile_count(&self, strip: &[u8], frame: (usize, usize)) -> usize {
+        Mock.tile_count(strip, frame)
+    }
+
+    fn tile_field(&self, strip: &[u8], frame: (usize, usize), ordinal: usize, field: usize) -> usize {
+        Mock.tile_field(strip, frame, ordinal, field)
+    }
+
+    fn lengths(&self, stream: &[u8]) -> Lengths {
+        let mut lengths = Mock.lengths(stream);
+        (self.0)(&mut lengths);
+        lengths
+    }
+
+    fn decode_stream(&self, stream: &[u8], slices: &mut Slices) -> Decoded {
+        Mock.decode_stream(stream, slices)
     }
 }

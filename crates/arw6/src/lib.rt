@@ -2,8 +2,12 @@
 ghost use mathlib.Core.Path.{_≡_};
 ghost use lib.ListN.{length};
 ghost use Rattle.format.specs.Strip.{tilesOf};
+ghost use Rattle.format.specs.Tile.{lengthsOf};
 ghost use Rattle.strip.specs.Answers.{tileField};
+ghost use Rattle.packets.specs.Answers.{codeLengths};
 ghost use Rattle.tile.specs.Decode.{TileOutcome};
+use packets::Lengths;
+use packets::lengths_of;
 use tile::Decoded;
 use tile::decode_stream;
 
@@ -27,6 +31,14 @@ pub extern "C" fn arw6_tile_field(
     ensures { λ r. ⌜ r ≡ tileField (tilesOf (now (strip .entry)) «frame_width» «frame_height») ordinal field ⌝ }
 {
     strip::tile_field(strip, frame_width, frame_height, ordinal, field)
+}
+
+// What to lend for a tile's stream: a refusal, or the coded size, rows and lengths.
+#[no_mangle]
+pub extern "C" fn arw6_lengths(stream: &[u8]) -> Lengths
+    ensures { λ r. ⌜ r ≡ codeLengths (lengthsOf (now (stream .entry))) ⌝ }
+{
+    lengths_of(stream)
 }
 
 // One tile: a refusal, with no slice changed, or the coded size, rows and stopped records with the three planes.

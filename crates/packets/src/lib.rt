@@ -5,14 +5,16 @@ ghost use Prim.Native.Nat.{_+_, _^_, _<_, _≤_};
 ghost use lib.ListN.{length};
 ghost use lib.Dec.{eqb};
 ghost use Rattle.format.specs.Packets.{packetStart, packetLength, packetOf};
-ghost use Rattle.format.specs.Refusals.{isDetail, wrongCount, tileRefusal, directoryRefusal, entryCheck, planeRefusal, packetsRefusal, lentRefusal, refusal};
-ghost use Rattle.packets.specs.Answers.{groupOf, colourOf, checkedOf};
+ghost use Rattle.format.specs.Refusals.{isDetail, wrongCount, tileRefusal, directoryRefusal, entryCheck, planeRefusal, packetsRefusal, refusal};
+ghost use Rattle.format.specs.Tile.{lengthsOf};
+ghost use Rattle.packets.specs.Answers.{groupOf, colourOf, codeLengths, shortOf, checkedOf};
 use fields::blocks;
 use fields::coded_height;
 use fields::colour_size;
 use fields::green_size;
 use fields::guarded;
 use fields::kind;
+use fields::plane_rows;
 use fields::stripes;
 use fields::width;
 use fields::work_length;
@@ -24,6 +26,20 @@ mod records;
 
 // The most numbers that a plane has.
 const MAX_PLANE_SAMPLES: usize = 134_217_728;
+
+// What to lend for a stream: a refusal with every other field 0, or 0 with the coded size, the rows of the planes and the numbers of each
+// slice.
+#[repr(C)]
+pub struct Lengths {
+    pub refusal: u64,
+    pub width: u64,
+    pub height: u64,
+    pub rows: u64,
+    pub green: u64,
+    pub red: u64,
+    pub blue: u64,
+    pub work: u64,
+}
 
 // The refusal of a stream, 0 for none; the coded size where there is none.
 pub struct Checked {
@@ -175,26 +191,62 @@ fn check_packets(stream: &[u8]) -> u32
     check_entry(stream, 4, 0)
 }
 
-// The size of the planes, and the lengths of the lent slices.
-fn check_lent(w: usize, height: usize, green: usize, red: usize, blue: usize, work: usize) -> u32
-    requires { ⌜ (w < 2 ^ 16) × (height < 2 ^ 17) ⌝ }
-    ensures { λ r. ⌜ r ≡ lentRefusal w height green red blue work ⌝ }
+// A refusal with every other field 0.
+fn no_lengths(refusal: u64) -> Lengths
+    ensures { λ r. ⌜ r ≡ record { refusal = refusal; width = 0; height = 0; rows = 0; green = 0; red = 0; blue = 0; work = 0 } ⌝ }
 {
-    let full = green_size(w, height);
-    if MAX_PLANE_SAMPLES < full {
-        return 3;
+    Lengths {
+        refusal,
+        width: 0,
+        height: 0,
+        rows: 0,
+        green: 0,
+        red: 0,
+        blue: 0,
+        work: 0,
     }
-    if green < full {
+}
+
+// What to lend for a stream: the check of its header, that of its size, and the lengths that follow.
+pub fn lengths_of(stream: &[u8]) -> Lengths
+    ensures { λ r. ⌜ r ≡ codeLengths (lengthsOf (now (stream .entry))) ⌝ }
+{
+    let StreamHeader::Valid(h) = parse_stream_header(stream) else {
+        return no_lengths(2);
+    };
+    let green = green_size(h.width, h.height);
+    if MAX_PLANE_SAMPLES < green {
+        return no_lengths(3);
+    }
+    let rows = plane_rows(h.height);
+    let colour = colour_size(h.width, h.height);
+    let work = work_length(h.width, h.height);
+    Lengths {
+        refusal: 0,
+        width: h.width as u64,
+        height: h.height as u64,
+        rows: rows as u64,
+        green: green as u64,
+        red: colour as u64,
+        blue: colour as u64,
+        work: work as u64,
+    }
+}
+
+// The lengths of the lent slices, against those needed.
+fn check_lent(need: Lengths, green: usize, red: usize, blue: usize, work: usize) -> u32
+    ensures { λ r. ⌜ r ≡ shortOf need green red blue work ⌝ }
+{
+    if (green as u64) < need.green {
         return 4;
     }
-    let half = colour_size(w, height);
-    if red < half {
+    if (red as u64) < need.red {
         return 4;
     }
-    if blue < half {
+    if (blue as u64) < need.blue {
         return 4;
     }
-    if work < work_length(w, height) {
+    if (work as u64) < need.work {
         return 4;
     }
     0
@@ -204,10 +256,11 @@ fn check_lent(w: usize, height: usize, green: usize, red: usize, blue: usize, wo
 fn first_refusal(stream: &[u8], green: usize, red: usize, blue: usize, work: usize) -> u32
     ensures { λ r. ⌜ r ≡ refusal (now (stream .entry)) green red blue work ⌝ }
 {
-    let StreamHeader::Valid(h) = parse_stream_header(stream) else {
-        return 2;
-    };
-    let a = check_lent(h.width, h.height, green, red, blue, work);
+    let need = lengths_of(stream);
+    if need.refusal != 0 {
+        return need.refusal as u32;
+    }
+    let a = check_lent(need, green, red, blue, work);
     if a != 0 {
         return a;
     }

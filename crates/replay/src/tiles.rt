@@ -1,12 +1,13 @@
-// Tiles: `tile::decode_stream` on a stream, and its answer and what the four lent slices should hold. A case is six little-endian words
-// (the stream's length, refusal, width, height, rows, stopped records), the stream's bytes, and a word for each number of green, red and
-// blue. A refused stream has 0 in the last four words, and no planes.
+// Tiles: `tile::decode_stream` on a stream, and its answer and what the four lent slices should hold; and the stream's lengths. A case is
+// six little-endian words (the stream's length, refusal, width, height, rows, stopped records), the stream's bytes, and a word for each
+// number of green, red and blue. A refused stream has 0 in the last four words, and no planes.
 ghost use Prim.Native.Nat.{_<_, _≤_, _^_};
 ghost use lib.ListN.{length};
 use crate::vectors::all;
 use crate::vectors::same;
 use crate::vectors::small;
 use crate::vectors::word;
+use packets::lengths_of;
 use tile::Decoded;
 use tile::decode_stream;
 
@@ -77,6 +78,36 @@ fn work_length(head: &[u8]) -> usize
     16 * (n + 1) * w
 }
 
+// Whether an accepted stream's lengths are those of the case: its size and rows, and as many numbers as its planes have.
+fn right_lengths(head: &[u8], stream: &[u8], want: &[u8]) -> bool
+    requires { ⌜ 24 ≤ length (now head) ⌝ }
+{
+    let work = work_length(head) as u64;
+    let need = lengths_of(stream);
+    if word(head, 4) != 0 {
+        return true;
+    }
+    if need.width != word(head, 8) as u64 {
+        return false;
+    }
+    if need.height != word(head, 12) as u64 {
+        return false;
+    }
+    if need.rows != word(head, 16) as u64 {
+        return false;
+    }
+    if need.green != (want.len() / 8) as u64 {
+        return false;
+    }
+    if need.red != (want.len() / 16) as u64 {
+        return false;
+    }
+    if need.blue != need.red {
+        return false;
+    }
+    need.work == work
+}
+
 // Decodes a stream into slices longer than it asks for, and compares.
 pub fn right_case(head: &[u8], stream: &[u8], want: &[u8]) -> bool
     requires { ⌜ 24 ≤ length (now head) ⌝ }
@@ -92,7 +123,10 @@ pub fn right_case(head: &[u8], stream: &[u8], want: &[u8]) -> bool
     if !right_planes(&green, &red, &blue, want) {
         return false;
     }
-    right_work(&work, work_length(head))
+    if !right_work(&work, work_length(head)) {
+        return false;
+    }
+    right_lengths(head, stream, want)
 }
 
 // The bytes of the planes: green has rows · width words, red and blue have half as many each.

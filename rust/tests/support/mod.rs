@@ -1,6 +1,9 @@
 //! Streams and strips that the tests share.
 #![allow(dead_code)]
 
+pub mod tiff;
+pub mod tool;
+
 /// The sample: frame width and height, then the strip.
 pub const SAMPLE: &[u8] = include_bytes!("../../../samples/joint.frame");
 
@@ -30,20 +33,81 @@ pub fn header(width: usize, height: usize) -> Vec<u8> {
     bytes
 }
 
-/// A stream whose records, at most 32 in a packet, have byte length 0: every number decodes to 0.
+/// A stream whose records have byte length 0: every number decodes to 0. Each packet has 8 units,
+/// or as many as its record headers need.
 pub fn flat_stream(width: usize, height: usize) -> Vec<u8> {
-    const UNITS: u8 = 8;
     let mut bytes = header(width, height);
-    let records = height.div_ceil(16) as u8 + 1;
+    let records = height.div_ceil(16) + 1;
     for (group, (kind, packets)) in [(1, 3), (3, 3), (3, 3), (3, 3), (1, 1)].into_iter().enumerate() {
-        bytes[16 + 3 * group + 2] = packets * UNITS;
-        bytes[48 + 16 * group] = packets;
-        for packet in 0..packets as usize {
-            bytes[48 + 16 * group + 3 + 3 * packet] = UNITS;
+        let units = (128 + records * (16 + 4 * kind)).div_ceil(128).max(8);
+        put24(&mut bytes, 16 + 3 * group, packets * units);
+        bytes[48 + 16 * group] = packets as u8;
+        for packet in 0..packets {
+            put24(&mut bytes, 48 + 16 * group + 1 + 3 * packet, units);
             let start = bytes.len();
-            bytes.extend([0, UNITS - 1, 0, 0, 0, 0x40, kind << 6, 0, records, 16]);
-            bytes.resize(start + 16 * UNITS as usize, 0);
+            let [.., control_high, control_low] = (units - 1).to_be_bytes();
+            let [.., records_high, records_low] = records.to_be_bytes();
+            let kind = (kind as u8) << 6;
+            bytes.extend([control_high, control_low, 0, 0, 0, 0x40, kind, records_high, records_low, 16]);
+            bytes.resize(start + 16 * units, 0);
         }
     }
     bytes
+}
+
+fn put24(bytes: &mut [u8], at: usize, number: usize) {
+    bytes[at..at + 3].copy_from_slice(&(number as u32).to_be_bytes()[1..]);
+}
+
+/// A frame file.
+pub fn frame_file(frame: (usize, usize), strip: &[u8]) -> Vec<u8> {
+    let side = |side: usize| (side as u32).to_le_bytes();
+    [&side(frame.0), &side(frame.1), strip].concat()
+}
+
+/// A frame file of one flat tile that its table names so often.
+pub fn repeated_tile(width: usize, height: usize, times: usize) -> Vec<u8> {
+    let mut strip = vec![0; 512];
+    strip[0] = times as u8;
+    strip.extend(flat_stream(width, height));
+    frame_file((width, height), &strip)
+}
+
+/// The sample with 300 bits of its payloads flipped, which no check sees.
+pub fn damaged() -> Vec<u8> {
+    let mut bytes = SAMPLE.to_vec();
+    let mut state: u32 = 1;
+    for _ in 0..300 {
+        state = state.wrapping_mul(1_664_525).wrapping_add(1_013_904_223);
+        let place = bytes.len() - 1 - (state >> 8) as usize % 10_000;
+        bytes[place] ^= 1 << (state >> 5 & 7);
+    }
+    bytes
+}
+
+/// The sample with its second tile's first packet missing.
+pub fn spoilt() -> Vec<u8> {
+    let mut bytes = SAMPLE.to_vec();
+    let second = 8 + 512 + stream(0).len();
+    bytes[second + 48] = 0;
+    bytes
+}
+
+/// The filtered rows of a PNG whose chunks hold stored blocks.
+pub fn png_pixels(file: &[u8]) -> Vec<u8> {
+    let (mut at, mut data) = (8, Vec::new());
+    while at < file.len() {
+        let length = u32::from_be_bytes(file[at..at + 4].try_into().unwrap()) as usize;
+        if &file[at + 4..at + 8] == b"IDAT" {
+            data.extend_from_slice(&file[at + 8..at + 8 + length]);
+        }
+        at += 12 + length;
+    }
+    let (mut at, mut pixels) = (2, Vec::new());
+    while at < data.len() - 4 {
+        let length = u16::from_le_bytes([data[at + 1], data[at + 2]]) as usize;
+        pixels.extend_from_slice(&data[at + 5..at + 5 + length]);
+        at += 5 + length;
+    }
+    pixels
 }

@@ -1,43 +1,67 @@
 //! The texts of `--help`.
 
 pub const ALL: &str = "\
-arw6: tiles and planes of Sony ARW6 frames, by the proved decoder
+arw6: what Sony ARW6 raw files hold, by the proved decoder
 
-  arw6 tiles FILE..              list the tiles
-  arw6 planes FILE.. --out DIR   write green, red and blue of each tile
-  arw6 digest FILE..             print a SHA-256 of each tile's planes
-  arw6 COMMAND --help            more about a command
-  arw6 --version
+  arw6 tiles FILE..               list the tiles and say which of them are whole
+  arw6 planes FILE.. --out DIR    write the numbers of green, red and blue, and pictures
+  arw6 digest FILE.. > LIST       note a SHA-256 of each tile's planes
+  arw6 digest --check LIST        say whether the files still give those planes
+  arw6 COMMAND --help             more about a command
+  arw6 -V, --version
 
-FILE is a frame file: frame width and height, 32-bit little-endian each, then the strip.
-With --frame WxH it is the strip alone, of a frame W wide and H high. Words after -- are
-files, whatever they begin with.
+FILE is a camera's .ARW file, or a frame file (frame width and height, 32-bit little-endian
+each, then the strip); - is standard input. Words after -- are files, whatever they begin
+with. For every command:
 
-Status: 0 all good; 1 some file refused or unreadable, or output that could not be
-written; 2 bad usage. Each error is one line on standard error.
+  -r, --recursive   FILE may be a folder: all .ARW and .frame files below it
+  -j, --jobs N      N files at once (as many as there are cores)
+  --json            results as JSON, one object a line
+  --strict          damage makes the status 1
+  --frame WxH       FILE is a bare strip of a frame W wide and H high (with -r: .strip)
+
+A file that is refused or cannot be read is one line on standard error, and the others go
+on. Damage (records that stopped early) is one warning line there.
+Status: 0 all good; 1 some file refused, unreadable or not written; 2 bad usage.
 ";
 
 pub const TILES: &str = "\
-arw6 tiles FILE.. [--frame WxH]
+arw6 tiles FILE.. [-r] [-j N] [--json] [--strict] [--frame WxH]
 
-Prints 'tiles N' and for each tile a line: offset, length, x, y, width, height, in bytes of
-the strip and places of the frame. More than one file: the file's name and a colon first.
-A file without a tile prints 'tiles 0' and is refused with number 1.
+Decodes each tile and prints 'tiles N' and a line for each: offset and length in bytes of
+the strip, x, y, width, height in the frame, then 'stopped S', how many of its records
+stopped early (above 0 a sign of damage), or 'refused N'. The first tile that is refused is
+told on standard error. With more than one file, the file's name and a colon come first.
 ";
 
 pub const PLANES: &str = "\
-arw6 planes FILE.. --out DIR [--frame WxH]
+arw6 planes FILE.. --out DIR [--force] [--no-picture] [-r] [-j N] [--json] [--strict]
+            [--frame WxH]
 
-Writes for tile K (from 0) of the file NAME, and for red and blue likewise:
-  DIR/NAME.tileK.green.npy   the exact numbers, 32-bit little-endian, shape (rows, columns)
-  DIR/NAME.tileK.green.pgm   to look at: 16-bit grey, number + 2048 held to 0..4095
-and prints one line for each plane. DIR is made if it is not there; files of these names in
-it are replaced. If any tile of a file is refused, nothing is written for that file.
+Writes a folder DIR/NAME.planes for each file NAME. For tile K (from 0) it holds
+  tileK.green.npy   the exact numbers, 32-bit little-endian, shape (rows, columns)
+  tileK.red.npy     and tileK.blue.npy likewise
+  tileK.png         a picture to look at, one pixel for each of the sensor
+and tiles.json: places, sizes, digests and stopped records. With -r the folders below a
+FILE that is a folder are kept below DIR.
+
+One row of the green plane holds both greens of two sensor rows: at odd columns those of the
+upper row, at even columns those of the lower one. Red and blue are half of what red and
+blue differ from the mean of those greens. A number + 2048 is the camera's 12-bit code.
+
+A folder appears whole or not at all. One that is there already is refused; --force
+replaces it. --no-picture leaves the pictures out.
 ";
 
 pub const DIGEST: &str = "\
-arw6 digest FILE.. [--frame WxH]
+arw6 digest FILE.. [-r] [-j N] [--json] [--strict] [--frame WxH]
+arw6 digest --check LIST.. [-q, --quiet] [-j N] [--json] [--strict] [--frame WxH]
 
-Prints for each tile: SHA-256, file name, tile number, coded width and height, plane rows,
-stopped records. docs/DIGEST.md defines the bytes that are hashed: coded size and planes.
+Prints for each tile a line: the digest's definition and version, the SHA-256 of coded size
+and planes, tile, coded size, stopped records, and the file as it was given. docs/DIGEST.md
+defines all of it down to the byte.
+
+With --check each line of the lists is made anew from its file and held against the list:
+OK, FAILED, missing, unreadable or refused with its number. --quiet leaves out those that
+are OK. Status 1 if any is not OK, or if a list has other lines.
 ";

@@ -1,0 +1,37 @@
+//! Why a tile was not decoded.
+
+use crate::Refusal;
+use std::fmt;
+
+/// A stream that was refused, or memory that cannot be had.
+#[derive(Debug, Clone, Copy, PartialEq, Eq)]
+#[non_exhaustive]
+pub enum Error {
+    /// The stream was refused; no number of any slice was changed.
+    Refused(Refusal),
+    /// The memory for the planes of a tile cannot be had.
+    Memory {
+        /// How many numbers of 32 bits the tile takes in all.
+        numbers: usize,
+    },
+}
+
+impl From<Refusal> for Error {
+    fn from(refusal: Refusal) -> Error {
+        Error::Refused(refusal)
+    }
+}
+
+impl fmt::Display for Error {
+    fn fmt(&self, f: &mut fmt::Formatter) -> fmt::Result {
+        match self {
+            Error::Refused(refusal) => refusal.fmt(f),
+            Error::Memory { numbers } => {
+                let megabytes = (numbers * 4).div_ceil(1_000_000);
+                write!(f, "the memory for its planes, {megabytes} MB, cannot be had")
+            }
+        }
+    }
+}
+
+impl std::error::Error for Error {}
