@@ -62,7 +62,9 @@ struct arw6_decoded {
     uint64_t width;   /* as in arw6_lengths */
     uint64_t height;
     uint64_t rows;
-    uint64_t stopped; /* records that met a width above 19 or ran past their allowance */
+    uint64_t stopped; /* records whose decoding stopped early: broken + spent */
+    uint64_t broken;  /* of these, the records that met a width above 19 first: damage */
+    uint64_t spent;   /* and those that ran past their allowance first, as coders let them on an evenly lit wall */
 };
 
 /* Decodes the stream of one tile, of stream_len bytes.

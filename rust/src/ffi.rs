@@ -23,6 +23,8 @@ pub struct Decoded {
     pub height: u64,
     pub rows: u64,
     pub stopped: u64,
+    pub broken: u64,
+    pub spent: u64,
 }
 
 extern "C" {
