@@ -1,7 +1,7 @@
 -- From a stream that no check refused to what decoding one of its packets asks and gives. Assumes nothing.
 use mathlib.Core.Path.{_≡_, refl, sym, ap, _∙_}
 use mathlib.Core.List.{List}
-use Prim.Native.Nat.{ℕ, _+_, _*_, _%_, _^_, _≤_, _<_}
+use Prim.Native.Nat.{ℕ, zero, suc, _+_, _*_, _%_, _^_, _≤_, _<_}
 use native.Mathlib.Nat.{zero-add}
 use native.Mathlib.Numerals.{add-one}
 use native.Mathlib.Omega.{arith}
@@ -9,22 +9,25 @@ use lib.IntN.{ℤ}
 use lib.ListN.{length}
 use Rattle.lists.specs.Lists.{laid}
 use Rattle.lists.proofs.Laid.{laid-same}
-use Rattle.format.specs.Coefficients.{recordValues, coefs, packetStopped, groupStopped, planeStopped, stoppedOf}
+use Rattle.format.specs.Coefficients.{recordValues, coefs, planeSum, tileSum}
+use Rattle.format.specs.Counts.{groupCount, brokenOf, spentOf}
 use Rattle.format.specs.Packets.{sum, packetStart, packetLength, packetOf, kind, blocks, payloadAt}
 use Rattle.format.specs.Sizes.{Colour, index, l1, l2, l3, Group, base, detail, final, number, multiplier, components, columns}
 use Rattle.format.specs.Accepted.{Good, PacketOk}
 use Rattle.passes.specs.declared.Plan.{Plan}
 use Rattle.passes.specs.Plan.{unitOf, finalUnits, Fits}
+use Rattle.records.specs.declared.Counts.{Counts}
 use Rattle.records.specs.declared.Finish.{Finish}
 use Rattle.records.specs.declared.Held.{Held}
 use Rattle.records.specs.declared.Walked.{Walked}
+use Rattle.records.specs.Counted.{none, both, Below, packetCounts}
 use Rattle.records.specs.Finished.{finishedBy}
 use Rattle.records.specs.Record.{walkedBy, valuesBy}
-use Rattle.records.proofs.Packet.{values-all, packet-stopped}
-use Rattle.records.proofs.StoppedLaws.{stopped-lt}
+use Rattle.records.proofs.Packet.{none-below, values-all, packet-counted}
+use Rattle.records.proofs.CountLaws.{count-lt}
 use Rattle.levels.specs.Block.{stood, recordLines, groupAt}
 use Rattle.levels.proofs.Blocks.{group-room}
-use Rattle.tile.specs.Packets.{packetGroup, packetIndex, groupIn, colourIn, Measured, heldOf, finishOf, packetLaid}
+use Rattle.tile.specs.Packets.{packetGroup, packetIndex, groupIn, colourIn, Measured, heldOf, finishOf, groupCounts, tileCounts, packetLaid}
 use Rattle.tile.proofs.Numbers.{packet-range, number-in, index-in, packet-present}
 use Rattle.tile.proofs.RecordLaws.{edges-fit, finished-stood}
 
@@ -73,19 +76,19 @@ module _ (s : List ℕ) (good : Good s) (z : Plan) (m : Measured s z) (fits : Fi
 
     module _ (d : Held) (ed : d ≡ heldOf z 0 g) (f : Finish) (ef : f ≡ finishOf z g i) where
       -- what its records ask
-      pub records-ask : (v : Walked) → v .offset < 2 ^ 35 → v .stopped ≡ 0 → (size : ℕ) → finalUnits * unitOf z ≤ size
-          → ((16 ≤ length q) × (0 + (z .n + 1) ≤ 2 ^ 16) × (v .offset < 2 ^ 35) × (v .stopped < 2 ^ 59) × (f .first + f .count ≤ kind q * d .m))
+      pub records-ask : (v : Walked) → v .offset < 2 ^ 35 → v .counts ≡ none → (size : ℕ) → finalUnits * unitOf z ≤ size
+          → ((16 ≤ length q) × (0 + (z .n + 1) ≤ 2 ^ 16) × (v .offset < 2 ^ 35) × Below (2 ^ 59) (v .counts) × (f .first + f .count ≤ kind q * d .m))
           × ((d .m ≤ 8) × (d .cols < 2 ^ 16) × (z .n + 1 ≤ d .slots) × (d .at + d .slots * (kind q * d .m * d .cols) ≤ size))
       records-ask v o n size room =
           let few : z .n ≤ 2048 = omega (arith, m .tall, good .low) in
           let narrow : columns (z .w) g < 2 ^ 16 = omega (arith, columns-most (z .w) g, m .wide, good .narrow) in
           let fit = group-room z 0 (fits .0 .whole) g in
           rw (ed, ef, kinds) (
-            (packet-long, omega (arith, few), o, omega (arith, n), edges-fit z i g),
+            (packet-long, omega (arith, few), o, none-below (v .counts) n, edges-fit z i g),
             (multiplier-most g, narrow, omega (arith, slots), omega (arith, fit, room)),
           )
 
-      module _ (v : Walked) (o : v .offset ≡ payloadAt q 0) (n : v .stopped ≡ 0) where
+      module _ (v : Walked) (o : v .offset ≡ payloadAt q 0) (n : v .counts ≡ none) where
         pub records-laid : (work after : List ℤ)
             → after ≡ laid (λ k. d .at + (0 + k) % d .slots * (kind q * d .m * d .cols)) (λ k. finishedBy f (d .cols) (0 + k) (valuesBy q (d .m) (d .cols) 0 v k)) work (z .n + 1)
             → after ≡ packetLaid s z p 0 (z .n + 1) work
@@ -104,29 +107,53 @@ module _ (s : List ℕ) (good : Good s) (z : Plan) (m : Measured s z) (fits : Fi
                 ∙ finished-stood s z m i k g (ok .kinds)
                 ∙ ap (recordLines (z .w) g (stood (z .guarded) (z .n) (coefs s) g i)) (sym zero)
 
-        pub records-stopped : (r : Walked) → r ≡ walkedBy q (d .m) (d .cols) 0 v (z .n + 1) → (r .stopped ≡ groupStopped s g i) × (r .stopped < 2 ^ 16)
-        unfolding groupStopped
-        records-stopped r e =
+        pub records-counted : (r : Walked) → r ≡ walkedBy q (d .m) (d .cols) 0 v (z .n + 1) → r .counts ≡ groupCounts s g i
+        unfolding groupCount
+        records-counted r e =
             let few : blocks q ≤ z .n + 1 = omega (arith, ap blocks own, ok .few, m .tall) in
-            let own-count : r .stopped ≡ packetStopped q (multiplier g) (columns (z .w) g) = ap (λ (x : Walked). x .stopped) e ∙ (λ j. walkedBy q (ed j .m) (ed j .cols) 0 v (z .n + 1) .stopped) ∙ packet-stopped q (multiplier g) (columns (z .w) g) v o n (z .n + 1) few in
-            (own-count ∙ (λ j. packetStopped (own j) (multiplier g) (columns (m .wide j) g)), omega (arith, own-count, stopped-lt q (multiplier g) (columns (z .w) g)))
+            ap (λ (x : Walked). x .counts) e
+            ∙ (λ j. walkedBy q (ed j .m) (ed j .cols) 0 v (z .n + 1) .counts)
+            ∙ packet-counted q (multiplier g) (columns (z .w) g) v o n (z .n + 1) few
+            ∙ (λ j. packetCounts (own j) (multiplier g) (columns (m .wide j) g))
 
--- ---- stopped records, packet by packet
-abbrev stoppedIn : List ℕ → ℕ → ℕ
-stoppedIn s p = groupStopped s (groupIn p) (colourIn p)
+-- ---- counts, packet by packet: how many records of the first p packets go by k
+abbrev goingBy : ℕ → List ℕ → ℕ → ℕ
+goingBy k s p = sum (λ q. groupCount k s (groupIn q) (colourIn q)) p
 
--- those of the first p packets
-abbrev pub stoppedBy : List ℕ → ℕ → ℕ
-stoppedBy s p = sum (stoppedIn s) p
+abbrev pub countsBy : List ℕ → ℕ → Counts
+countsBy s p = record { broken = goingBy 1 s p; spent = goingBy 2 s p }
 
-pub stopped-start : (s : List ℕ) → 0 ≡ stoppedBy s 0
+pub counts-start : (s : List ℕ) → none ≡ countsBy s 0
 unfolding sum
-stopped-start s = refl
+counts-start s = refl
 
-pub stopped-step : (s : List ℕ) (p n k : ℕ) → n ≡ stoppedBy s p → k ≡ groupStopped s (groupIn p) (colourIn p) → n + k ≡ stoppedBy s (p + 1)
+pub counts-step : (s : List ℕ) (p : ℕ) (c d : Counts) → c ≡ countsBy s p → d ≡ groupCounts s (groupIn p) (colourIn p) → both c d ≡ countsBy s (p + 1)
 unfolding sum
-stopped-step s p n k e f = rw add-one (λ j. e j + f j)
+counts-step s p c d e f = rw add-one (λ j. both (e j) (f j))
 
-pub stopped-all : (s : List ℕ) → stoppedBy s 13 ≡ stoppedOf s
-unfolding sum stoppedOf planeStopped
-stopped-all s = omega arith
+packets-sum : (f : Group → Colour → ℕ) → sum (λ q. f (groupIn q) (colourIn q)) 13 ≡ tileSum f
+unfolding sum tileSum planeSum
+packets-sum f = omega arith
+
+pub counts-all : (s : List ℕ) → countsBy s 13 ≡ tileCounts s
+unfolding brokenOf spentOf
+counts-all s = λ j. record { broken = packets-sum (groupCount 1 s) j; spent = packets-sum (groupCount 2 s) j }
+
+-- ---- they are small
+group-lt : (k : ℕ) (s : List ℕ) (g : Group) (i : Colour) → groupCount k s g i < 2 ^ 16
+unfolding groupCount
+group-lt k s g i = count-lt k _ _ _
+
+going-most : (k : ℕ) (s : List ℕ) (p : ℕ) → goingBy k s p ≤ 65536 * p
+unfolding sum
+going-most k s zero = omega arith
+going-most k s (suc p) = omega (arith, going-most k s p, group-lt k s (groupIn p) (colourIn p))
+
+pub group-below : (s : List ℕ) (g : Group) (i : Colour) (c : Counts) → c ≡ groupCounts s g i → Below (2 ^ 60) c
+group-below s g i c e = rw e (record { broken = omega (arith, group-lt 1 s g i); spent = omega (arith, group-lt 2 s g i) })
+
+pub counts-below : (s : List ℕ) (p : ℕ) (c : Counts) → p ≤ 13 → c ≡ countsBy s p → Below (2 ^ 60) c
+counts-below s p c h e = rw e (record { broken = omega (arith, going-most 1 s p); spent = omega (arith, going-most 2 s p) })
+
+pub tile-below : (s : List ℕ) (c : Counts) → c ≡ tileCounts s → Below (2 ^ 60) c
+tile-below s c e = counts-below s 13 c (omega arith) (e ∙ sym (counts-all s))

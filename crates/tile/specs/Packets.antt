@@ -8,11 +8,13 @@ use lib.Dec.{ltb}
 use lib.IntN.{ℤ}
 use Rattle.lists.specs.Lists.{laid}
 use Rattle.format.specs.Coefficients.{coefs}
+use Rattle.format.specs.Counts.{groupCount, brokenOf, spentOf}
 use Rattle.format.specs.Sizes.{Colour, l1, l2, l3, Group, base, detail, final, multiplier, columns, stripes, guarded}
 use Rattle.format.specs.Strip.{width, codedHeight}
 use Rattle.format.specs.Table.{mode}
 use Rattle.packets.specs.Answers.{groupOf, colourOf}
 use Rattle.passes.specs.declared.Plan.{Plan}
+use Rattle.records.specs.declared.Counts.{Counts}
 use Rattle.records.specs.declared.Finish.{Finish}
 use Rattle.records.specs.declared.Held.{Held}
 use Rattle.levels.specs.Block.{stood, recordSize, recordLines, groupAt}
@@ -51,6 +53,13 @@ finishOf z (detail l1) i = asIs
 finishOf z (detail l2) i = record { sums = false; first = cond (z .guarded) 1 2; count = 1; last = cond (z .guarded) 0 (z .n); odd = false }
 finishOf z (detail l3) i = record { sums = false; first = cond (z .guarded) 2 4; count = cond (z .guarded) 1 2; last = z .n; odd = mode l3 i }
 finishOf z final i = asIs
+
+-- the counts of a packet's records, and of the tile's
+abbrev pub groupCounts : List ℕ → Group → Colour → Counts
+groupCounts s g i = record { broken = groupCount 1 s g i; spent = groupCount 2 s g i }
+
+abbrev pub tileCounts : List ℕ → Counts
+tileCounts s = record { broken = brokenOf s; spent = spentOf s }
 
 -- ---- in document 01's words
 -- the work slice with `count` records of packet p from record `from` on laid into it, finished

@@ -20,7 +20,7 @@ returns c =
     let d = g .before .before .before in
     let s = d .before .before .before .args in
     let e = d .fill-record .ensures in
-    (e .0, (g .finish-record .ensures ∙ ap (finishedBy (s .f) (s .h .cols) (s .i)) (e .1 .0), e .1 .1))
+    (e .0, g .finish-record .ensures ∙ ap (finishedBy (s .f) (s .h .cols) (s .i)) (e .1))
 
 pub finished-record-spec : {M : Type 1} → statement M
 finished-record-spec =

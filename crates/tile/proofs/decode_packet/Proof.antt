@@ -1,6 +1,6 @@
 -- `tile::decode_packet` meets its contract. Assumes nothing.
 use native.Mathlib.Omega.{arith}
-use Rattle.tile.proofs.PacketLaws.{packet-there, packet-long, records-ask, records-laid, records-stopped}
+use Rattle.tile.proofs.PacketLaws.{packet-there, packet-long, records-ask, records-laid, records-counted}
 use borrow.Author.Needs.{needs}
 use Rattle.tile.proofs.decode_packet.Statement.{statement}
 use Rattle.tile.proofs.decode_packet.Tie as tie
@@ -44,8 +44,8 @@ next-records-requires c κs =
 
 returns : tie.Need-returns
 returns c =
-    let n = c .before .next-records in
-    let f = c .before .before .before .before in
+    let n = c .before .before .next-records in
+    let f = c .before .before .before .before .before in
     let d = f .before in
     let b = d .before in
     let q = b .before in
@@ -64,7 +64,7 @@ returns c =
     let y = q .packet .ensures in
     let a = rw g at (d .held .ensures) in
     let u = rw (g, x) at (f .finishing .ensures) in (
-      records-stopped t (p .0) z (r .0) (r .1) (r .2) (s .p) (r .3) _ _ g x own y _ a _ u _ (e .0) (e .2) _ (n .ensures .0),
+      records-counted t (p .0) z (r .0) (r .1) (r .2) (s .p) (r .3) _ _ g x own y _ a _ u _ (e .0) (e .2) _ (n .ensures .0),
       records-laid t (p .0) z (r .0) (r .1) (r .2) (s .p) (r .3) _ _ g x own y _ a _ u _ (e .0) (e .2) _ _ (n .ensures .1),
     )
 
