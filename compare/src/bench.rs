@@ -1,7 +1,7 @@
 //! The command `bench`: thread CPU time of whole tiles and of their coefficients alone, the
 //! original in serial order and ours.
 
-use crate::oracle::packet_coefficients;
+use crate::oracle::{packet_coefficients, Counts};
 use crate::original::{decode_stream, packet_planes, parse_directory, DirEntry, Plane};
 use crate::ours::{Decoder, PacketDecoder, Slices};
 use crate::records::Recipe;
@@ -127,8 +127,8 @@ impl Packets<'_> {
         let (size, (start, length)) = (self.stream.size, self.stream.packets[group][index]);
         let (shape, records) = (size.shape(group), size.n() + 1);
         let packet = &self.stream.bytes[start..start + length];
-        let stopped = decoder.packet(packet, shape, records, &mut band[..records * shape.numbers()]);
-        assert_eq!(stopped, Some(0));
+        let counts = decoder.packet(packet, shape, records, &mut band[..records * shape.numbers()]);
+        assert_eq!(counts, Some(Counts::default()));
     }
 
     /// Whether both give the same coefficients of every packet.

@@ -1,6 +1,6 @@
 //! A writer of bits, highest first.
 
-#[derive(Default)]
+#[derive(Clone, Default)]
 pub struct BitWriter {
     bytes: Vec<u8>,
     held: u64,
@@ -24,6 +24,11 @@ impl BitWriter {
             self.put(0, 1);
         }
         self.put(1, 1);
+    }
+
+    /// How many bits were written.
+    pub fn written(&self) -> usize {
+        8 * self.bytes.len() + self.count as usize
     }
 
     /// The bytes, the last one filled up with zeros.

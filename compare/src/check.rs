@@ -1,7 +1,7 @@
 //! Holds a decoder's answer for one case against the original's, and makes a failing case smaller.
 
 use crate::faults::Trial;
-use crate::oracle::{self, Answer};
+use crate::oracle::{self, Counts};
 use crate::ours::{Decoded, Decoder, Lengths, Slices};
 use crate::strips::Strip;
 
@@ -15,8 +15,7 @@ pub enum Case {
 /// What the original answers to a case.
 #[derive(Debug, Clone, Copy, PartialEq, Eq)]
 pub enum Seen {
-    Plain { stopped: usize },
-    Guarded { stopped: usize },
+    Accepted { guarded: bool, counts: Counts, turned: usize },
     Tiles(usize),
     Refused(u64),
 }
@@ -46,7 +45,7 @@ fn check_stream(decoder: &impl Decoder, trial: &Trial) -> Result<Seen, String> {
     let expected = oracle::decode(&trial.stream, trial.lent);
     let mut slices = lend(trial.lent);
     let decoded = decoder.decode_stream(&trial.stream, &mut slices);
-    equal("answer", &decoded, &expected_answer(&expected))?;
+    equal("answer", &decoded, &Decoded::by(expected.as_ref()))?;
     let Ok(planes) = expected else {
         check_rests(&slices, [0; 4])?;
         return Ok(Seen::Refused(decoded.refusal));
@@ -58,25 +57,11 @@ fn check_stream(decoder: &impl Decoder, trial: &Trial) -> Result<Seen, String> {
     }
     check_numbers("work", &slices[3][..needed[3]], &vec![0; needed[3]])?;
     check_rests(&slices, needed)?;
-    let stopped = planes.stopped;
-    Ok(if planes.size.guarded() { Seen::Guarded { stopped } } else { Seen::Plain { stopped } })
+    Ok(Seen::Accepted { guarded: planes.size.guarded(), counts: planes.counts, turned: planes.turned })
 }
 
-/// The answer that the interface gives in the original's terms.
-fn expected_answer(expected: &Answer) -> Decoded {
-    match expected {
-        Err(refusal) => Decoded { refusal: *refusal, ..Decoded::default() },
-        Ok(planes) => Decoded {
-            refusal: 0,
-            width: planes.size.width as u64,
-            height: planes.size.height() as u64,
-            rows: planes.size.rows() as u64,
-            stopped: planes.stopped as u64,
-        },
-    }
-}
-
-fn equal<T: PartialEq + std::fmt::Debug>(what: &str, found: &T, expected: &T) -> Result<(), String> {
+/// Two answers are the same; else the text tells both.
+pub fn equal<T: PartialEq + std::fmt::Debug>(what: &str, found: &T, expected: &T) -> Result<(), String> {
     match found == expected {
         true => Ok(()),
         false => Err(format!("{what}: ours {found:?}, the original {expected:?}")),

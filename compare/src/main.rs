@@ -15,7 +15,7 @@ compare: the proved ARW6 tile decoder against the original in Rust
         (default mismatch.bin)
   compare sweep [--out FILE]
         the same for every byte value in the heads of small streams and strips, every length of
-        them and every opening of 16 bits in a record
+        them and every 16 bits at the start and at the end of a record
   compare ordinary [--seed S] [--count N] [--out FILE]
         N random tiles (default 10000) with selectors up to 4, held against a synthesis on whole
         numbers, and one table with the largest magnitude of each stage. A mismatch ends with

@@ -11,11 +11,56 @@ use crate::{Error, Result};
 /// The six fields of a tile, in document 01's order.
 pub type Tile = [usize; 6];
 
+/// The status of a record after each of its rows; no row where its byte length is 0.
+#[derive(Debug, Clone, Default, PartialEq, Eq)]
+pub struct Course(pub Vec<u8>);
+
+impl Course {
+    /// The first status that was not 0, else 0.
+    pub fn first(&self) -> u8 {
+        self.0.iter().copied().find(|&status| status != 0).unwrap_or(0)
+    }
+
+    /// The status at the end.
+    pub fn last(&self) -> u8 {
+        self.0.last().copied().unwrap_or(0)
+    }
+
+    /// Whether the opening read of a later row turned 1 into 2.
+    pub fn turned(&self) -> bool {
+        (self.first(), self.last()) == (1, 2)
+    }
+}
+
+/// Records of a packet or of a tile that did not keep status 0.
+#[derive(Debug, Clone, Copy, Default, PartialEq, Eq)]
+pub struct Counts {
+    /// Status at the end not 0.
+    pub stopped: u64,
+    /// First status 1: a width above 19.
+    pub broken: u64,
+    /// First status 2: past the allowance.
+    pub spent: u64,
+}
+
+impl Counts {
+    fn of(courses: &[Course]) -> Counts {
+        let count = |holds: fn(&Course) -> bool| courses.iter().filter(|c| holds(c)).count() as u64;
+        Counts {
+            stopped: count(|c| c.last() != 0),
+            broken: count(|c| c.first() == 1),
+            spent: count(|c| c.first() == 2),
+        }
+    }
+}
+
 /// What an accepted stream decodes to.
 #[derive(Debug, Clone, PartialEq, Eq)]
 pub struct Planes {
     pub size: Size,
-    pub stopped: usize,
+    pub counts: Counts,
+    /// Broken records whose status at the end is 2.
+    pub turned: usize,
     pub green: Vec<i32>,
     pub red: Vec<i32>,
     pub blue: Vec<i32>,
@@ -86,30 +131,36 @@ pub fn decode(stream: &[u8], lent: [usize; 4]) -> Answer {
         return Err(4);
     }
     let tile = decode_stream(stream, false).map_err(|e| number(&e))?;
-    let stopped = stopped_records(stream, size).map_err(|e| number(&e))?;
+    let courses = courses(stream, size).map_err(|e| number(&e))?;
     let plane = |p: Plane, columns: usize| {
         assert_eq!((p.rows, p.cols), (size.rows(), columns), "rows R and columns of a plane");
         p.data
     };
     Ok(Planes {
         size,
-        stopped,
+        counts: Counts::of(&courses),
+        turned: courses.iter().filter(|c| c.turned()).count(),
         green: plane(tile.full_green, size.width),
         red: plane(tile.red, size.width / 2),
         blue: plane(tile.blue, size.width / 2),
     })
 }
 
-/// Records over the tile's 13 packets whose status at the end is not 0.
-fn stopped_records(stream: &[u8], size: Size) -> Result<usize> {
+/// The courses of all records of the tile's 13 packets.
+pub fn courses(stream: &[u8], size: Size) -> Result<Vec<Course>> {
     let packets = tile_packets(stream, &parse_directory(stream)?);
-    let mut stopped = 0;
+    let mut courses = Vec::new();
     for (group, packets) in packets.iter().enumerate() {
         for packet in packets {
-            stopped += decode_records(&parse_packet(packet)?, size.shape(group)).1;
+            courses.extend(packet_courses(packet, size.shape(group))?);
         }
     }
-    Ok(stopped)
+    Ok(courses)
+}
+
+/// The courses of the records of a packet.
+pub fn packet_courses(packet: &[u8], shape: Shape) -> Result<Vec<Course>> {
+    Ok(decode_records(&parse_packet(packet)?, shape).1)
 }
 
 /// The tile's packets by group and index.
@@ -143,11 +194,12 @@ pub fn greatest_selector(stream: &[u8]) -> u32 {
 }
 
 /// Decodes a packet record by record, as the original's `packet_planes` does: the coefficients
-/// record after record, and the count of stopped records.
-fn decode_records(packet: &Packet, shape: Shape) -> (Vec<i32>, usize) {
+/// record after record, and the course of each.
+fn decode_records(packet: &Packet, shape: Shape) -> (Vec<i32>, Vec<Course>) {
     let mut coefficients = vec![0; packet.records.len() * shape.numbers()];
-    let mut stopped = 0;
-    for (record, rows) in packet.records.iter().zip(coefficients.chunks_mut(shape.numbers())) {
+    let mut courses = vec![Course::default(); packet.records.len()];
+    let bands = coefficients.chunks_mut(shape.numbers());
+    for ((record, rows), course) in packet.records.iter().zip(bands).zip(&mut courses) {
         if record.byte_length == 0 {
             continue;
         }
@@ -155,26 +207,28 @@ fn decode_records(packet: &Packet, shape: Shape) -> (Vec<i32>, usize) {
         for (i, row) in rows.chunks_mut(shape.columns).enumerate() {
             let selector = record.selectors[i / shape.m] as u32;
             decode_component(&mut bits, shape.groups(), selector, row);
+            course.0.push(bits.status);
         }
-        stopped += (bits.status != 0) as usize;
     }
-    (coefficients, stopped)
+    (coefficients, courses)
 }
 
 /// The coefficients of a packet of which `records` records are expected, 0 for those that are not
-/// there, and the count of stopped records.
-pub fn packet_coefficients(packet: &[u8], shape: Shape, records: usize) -> Result<(Vec<i32>, usize)> {
-    let (mut coefficients, stopped) = decode_records(&parse_packet(packet)?, shape);
+/// there, and the counts of its records.
+pub fn packet_coefficients(packet: &[u8], shape: Shape, records: usize) -> Result<(Vec<i32>, Counts)> {
+    let (mut coefficients, courses) = decode_records(&parse_packet(packet)?, shape);
     coefficients.resize(records * shape.numbers(), 0);
-    Ok((coefficients, stopped))
+    Ok((coefficients, Counts::of(&courses)))
 }
 
 #[cfg(test)]
 mod tests {
     use super::*;
     use crate::original::packet_planes;
+    use crate::packets::Record;
     use crate::rng::Rng;
     use crate::streams::draw_stream;
+    use crate::written;
 
     /// Every error text of the original's source.
     fn texts_of_the_source() -> Vec<String> {
@@ -271,6 +325,52 @@ mod tests {
                 }
             }
         }
+    }
+
+    /// One unit for eight rows of eight columns: a row of zeros, 00; a width of 122, 10 and a unary
+    /// that ends two bits before the end; those two bits, one for each of the next two rows; then
+    /// the fifth row's opening read runs past.
+    const TURNED: [u8; 16] = [0x20, 0, 0, 0, 0, 0, 0, 0, 0, 0, 0, 0, 0, 0, 0, 0b0000_0111];
+
+    /// A packet with that record and an empty one.
+    fn turned_packet() -> Vec<u8> {
+        let header = [0, 1, 0, 0, 1, 0x40, 0x40, 0, 2, 0x10, 0, 0, 0, 0, 0, 0];
+        let records = [0, 16, 0, 0, 0, 0, 0, 0, 0, 0, 0, 0, 0, 0, 0, 0];
+        [header, records, TURNED].concat()
+    }
+
+    #[test]
+    fn a_status_that_turns() {
+        let size = Size { width: 16, half: 8 };
+        let (packet, shape) = (turned_packet(), size.shape(4));
+        let courses = packet_courses(&packet, shape).unwrap();
+        assert_eq!(courses, [Course(vec![0, 1, 1, 1, 2, 2, 2, 2]), Course(vec![])]);
+        let counts = Counts { stopped: 1, broken: 1, spent: 0 };
+        assert_eq!(packet_coefficients(&packet, shape, 2), Ok((vec![0; 128], counts)));
+
+        let empty = |group: usize| vec![vec![Record::default(); 2]; TILE_PACKETS[group]];
+        let mut records = std::array::from_fn(empty);
+        records[4][0][0].payload = TURNED.to_vec();
+        let stream = written::stream(size, &records);
+        let (start, length) = stream.packets[4][0];
+        assert_eq!(stream.bytes[start..start + length], packet);
+        let planes = decode(&stream.bytes, size.needed()).unwrap();
+        assert_eq!((planes.counts, planes.turned), (counts, 1));
+    }
+
+    #[test]
+    fn stopped_records_are_broken_or_spent() {
+        let mut rng = Rng::new(3);
+        let mut kinds = [0; 2];
+        for _ in 0..300 {
+            let stream = draw_stream(&mut rng);
+            let Ok(planes) = decode(&stream.bytes, stream.size.needed()) else { continue };
+            let Counts { stopped, broken, spent } = planes.counts;
+            assert_eq!(stopped, broken + spent);
+            assert!(planes.turned as u64 <= broken);
+            kinds = [kinds[0] + broken, kinds[1] + spent];
+        }
+        assert!(kinds.iter().all(|&records| records > 1000), "{kinds:?}");
     }
 
     /// Takes some seconds and more than a gigabyte: `cargo test -- --ignored`.

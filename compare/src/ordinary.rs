@@ -2,9 +2,10 @@
 //! library, the original and the synthesis on whole numbers must agree, and nothing leaves 32 bits.
 
 use crate::bits::overwrite;
+use crate::check::equal;
 use crate::encoder::{Value, MAX_WIDTH};
 use crate::oracle::{self, Planes};
-use crate::ours::{Decoder, Slices};
+use crate::ours::{Decoded, Decoder, Slices};
 use crate::packets::{record_at, Record};
 use crate::records::{draw_value, Recipe};
 use crate::rng::Rng;
@@ -191,9 +192,7 @@ pub fn hold(decoder: &impl Decoder, stream: &[u8], original: &Planes) -> Result<
     let size = original.size;
     let mut slices: Slices = size.needed().map(|length| vec![1; length]);
     let decoded = decoder.decode_stream(stream, &mut slices);
-    if (decoded.refusal, decoded.stopped) != (0, original.stopped as u64) {
-        return Err(format!("refusal {}, stopped {} of the library", decoded.refusal, decoded.stopped));
-    }
+    equal("answer", &decoded, &Decoded::by(Ok(original)))?;
     let (held, whole) = hold_whole(stream, original)?;
     for (i, name) in NAMES.into_iter().enumerate() {
         same(&format!("{name} of the library"), &slices[i], &whole[i])?;
@@ -270,7 +269,7 @@ impl Tally {
         self.plain += 1 - guarded;
         self.damaged += damaged as usize;
         self.whole += !damaged as usize;
-        self.stopped += (planes.stopped > 0) as usize;
+        self.stopped += (planes.counts.stopped > 0) as usize;
     }
 
     pub fn print(&self) {

@@ -15,6 +15,7 @@ pub use library::Library as Ours;
 #[cfg(feature = "mock")]
 pub use mock::Mock as Ours;
 
+use crate::oracle::{Counts, Planes};
 use crate::size::{Shape, Size};
 pub use ffi::{Decoded, Lengths};
 
@@ -42,9 +43,22 @@ impl Lengths {
     }
 }
 
+impl Decoded {
+    /// The answer for a stream of which the original says this.
+    pub fn by(answer: Result<&Planes, &u64>) -> Decoded {
+        let planes = match answer {
+            Err(refusal) => return Decoded { refusal: *refusal, ..Decoded::default() },
+            Ok(planes) => planes,
+        };
+        let (size, Counts { stopped, broken, spent }) = (planes.size, planes.counts);
+        let (width, height, rows) = (size.width as u64, size.height() as u64, size.rows() as u64);
+        Decoded { refusal: 0, width, height, rows, stopped, broken, spent }
+    }
+}
+
 /// What the benchmark asks of it besides.
 pub trait PacketDecoder: Decoder {
-    /// The coefficients of a packet of so many records, and how many of them stopped; None where
-    /// the packet, the shape and the band do not go together.
-    fn packet(&self, packet: &[u8], shape: Shape, records: usize, band: &mut [i32]) -> Option<usize>;
+    /// The coefficients of a packet of so many records, and their counts; None where the packet, the
+    /// shape and the band do not go together.
+    fn packet(&self, packet: &[u8], shape: Shape, records: usize, band: &mut [i32]) -> Option<Counts>;
 }

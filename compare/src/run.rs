@@ -22,8 +22,12 @@ pub struct Tally {
     pub cases: usize,
     pub plain: usize,
     pub guarded: usize,
-    /// Accepted streams with stopped records.
+    /// Accepted streams with stopped, broken and spent records, and with broken ones whose status
+    /// turned from 1 into 2.
     pub stopped: usize,
+    pub broken: usize,
+    pub spent: usize,
+    pub turned: usize,
     /// Strips in which tiles were located, and those tiles.
     pub strips: usize,
     pub tiles: usize,
@@ -34,13 +38,13 @@ pub struct Tally {
 impl Tally {
     fn count(&mut self, seen: Seen) {
         match seen {
-            Seen::Plain { stopped } => {
-                self.plain += 1;
-                self.stopped += (stopped > 0) as usize;
-            }
-            Seen::Guarded { stopped } => {
-                self.guarded += 1;
-                self.stopped += (stopped > 0) as usize;
+            Seen::Accepted { guarded, counts, turned } => {
+                self.plain += !guarded as usize;
+                self.guarded += guarded as usize;
+                self.stopped += (counts.stopped > 0) as usize;
+                self.broken += (counts.broken > 0) as usize;
+                self.spent += (counts.spent > 0) as usize;
+                self.turned += (turned > 0) as usize;
             }
             Seen::Tiles(count) => {
                 self.strips += 1;
@@ -56,6 +60,9 @@ impl Tally {
         line("streams accepted, plain", self.plain);
         line("streams accepted, guarded", self.guarded);
         line("  of these with stopped records", self.stopped);
+        line("    with broken records", self.broken);
+        line("      with a status turned from 1 into 2", self.turned);
+        line("    with spent records", self.spent);
         line("strips with tiles", self.strips);
         line("  tiles in them", self.tiles);
         for number in 1..=24 {
@@ -110,6 +117,7 @@ pub fn check_all(decoder: &impl Decoder, cases: impl Iterator<Item = Case>) -> O
 mod tests {
     use super::*;
     use crate::check::{Case, Seen};
+    use crate::oracle::{courses, header_size, Course};
     use crate::ours::mock::{Mismeasured, Mistaken, Mock};
     use crate::ours::{Decoded, Lengths, Slices};
 
@@ -117,7 +125,9 @@ mod tests {
     fn every_refusal_is_reached() {
         let (tally, failing) = run(&Mock, 1, 12_000);
         assert_eq!(failing, None);
-        assert!(tally.plain > 100 && tally.guarded > 100 && tally.stopped > 100 && tally.strips > 100);
+        assert!(tally.plain > 100 && tally.guarded > 100 && tally.strips > 100);
+        let records = [tally.stopped, tally.broken, tally.spent, tally.turned];
+        assert!(records.iter().all(|&cases| cases > 100), "{records:?}");
         for number in 1..=24 {
             assert!(tally.refused[number] >= 10, "number {number}: {}", tally.refused[number]);
         }
@@ -154,6 +164,38 @@ mod tests {
             assert!(tally.mismatches > 0 && !what.is_empty(), "mistake {i}");
             assert!(matches!(case, Case::Stream(_)));
         }
+    }
+
+    /// Counts the records of an accepted stream by another status than the first that was not 0.
+    fn recount(stream: &[u8], decoded: &mut Decoded, status: fn(&Course) -> u8) {
+        if decoded.refusal > 0 {
+            return;
+        }
+        let courses = courses(stream, header_size(stream).unwrap()).unwrap();
+        let count = |number| courses.iter().filter(|c| status(c) == number).count() as u64;
+        (decoded.broken, decoded.spent) = (count(1), count(2));
+    }
+
+    /// The status at the end decides; spent records count as broken; the first row alone decides,
+    /// the others being left out or counted as spent.
+    #[test]
+    fn mistaken_counts_are_found() {
+        let mistakes: [fn(&[u8], &mut Slices, &mut Decoded); 4] = [
+            |stream, _, decoded| recount(stream, decoded, Course::last),
+            |stream, _, decoded| recount(stream, decoded, |c| c.first().min(1)),
+            |stream, _, decoded| recount(stream, decoded, |c| c.0.first().copied().unwrap_or(0)),
+            |stream, _, decoded| {
+                recount(stream, decoded, |c| if c.0.first() == Some(&1) { 1 } else { c.first().min(1) * 2 })
+            },
+        ];
+        for (i, mistake) in mistakes.into_iter().enumerate() {
+            let (tally, failing) = run(&Mistaken(mistake), 5, 2000);
+            let (case, what) = failing.expect("the mistake shows");
+            assert!(tally.mismatches > 20, "mistake {i}: {}", tally.mismatches);
+            assert!(matches!(case, Case::Stream(_)) && what.starts_with("answer: "), "mistake {i}");
+        }
+        let (tally, failing) = run(&Mistaken(|s, _, d| recount(s, d, Course::first)), 5, 2000);
+        assert_eq!((tally.mismatches, failing), (0, None));
     }
 
     #[test]

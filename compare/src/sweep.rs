@@ -1,10 +1,12 @@
 //! The command `sweep`: small streams and strips with every value of every byte in their heads,
-//! cut at every length, and every opening of 16 bits in a record's payload.
+//! cut at every length, and every 16 bits at the start and at the end of a record's payload.
 
+use crate::bits::BitWriter;
 use crate::check::Case;
+use crate::encoder::{write_row, Group};
 use crate::faults::Trial;
 use crate::oracle::header_size;
-use crate::packets::{packet, Record, Room};
+use crate::packets::{packet, Record, Room, UNIT};
 use crate::records::Recipe;
 use crate::rng::Rng;
 use crate::size::Size;
@@ -19,8 +21,8 @@ pub fn cases() -> impl Iterator<Item = Case> {
     let streams = [(16, 16), (16, 26)].map(|(width, height)| small_parts(width, height));
     let heads = streams.clone().into_iter().flat_map(|parts| stream_heads(assemble(&parts).bytes));
     let ends = streams.clone().into_iter().flat_map(|parts| stream_ends(assemble(&parts).bytes));
-    let openings = streams.into_iter().flat_map(openings);
-    heads.chain(ends).chain(openings).chain(small_strips().into_iter().flat_map(strip_cases))
+    let payloads = streams.into_iter().flat_map(payloads);
+    heads.chain(ends).chain(payloads).chain(small_strips().into_iter().flat_map(strip_cases))
 }
 
 fn small_parts(width: usize, height: usize) -> Parts {
@@ -54,20 +56,34 @@ fn stream_ends(stream: Vec<u8>) -> impl Iterator<Item = Case> {
     (0..=stream.len()).map(move |length| stream_case(stream[..length].to_vec()))
 }
 
-/// Every opening of the first record of group 4, over zeros and over other bits, with a selector
-/// and without.
-fn openings(parts: Parts) -> impl Iterator<Item = Case> {
-    let rests = [(0x00, 0), (0xb6, 1)];
-    let all = rests.into_iter().flat_map(|rest| (0..=u16::MAX).map(move |opening| (rest, opening)));
-    all.map(move |((rest, selector), opening)| {
-        let mut payload = vec![rest; 16];
-        payload[..2].copy_from_slice(&opening.to_be_bytes());
+/// Every opening of the first record of group 4, over zeros and over other bits, and every ending,
+/// before signs and without, each with a selector and without.
+fn payloads(parts: Parts) -> impl Iterator<Item = Case> {
+    let rests = [([0x00; UNIT], 0, 0), ([0xb6; UNIT], 0, 1), (unended(0), 14, 0), (unended(1), 14, 1)];
+    let all = rests.into_iter().flat_map(|rest| (0..=u16::MAX).map(move |bits| (rest, bits)));
+    all.map(move |((rest, at, selector), bits)| {
+        let mut payload = rest.to_vec();
+        payload[at..at + 2].copy_from_slice(&bits.to_be_bytes());
         let mut records = vec![Record::default(); parts.size.n() + 1];
         records[0] = Record { selectors: [selector, 0, 0], payload };
         let mut parts = parts.clone();
         parts.groups[4][0] = packet(1, &records, Room::default());
         stream_case(assemble(&parts).bytes)
     })
+}
+
+/// A payload of 112 bits for rows of eight columns: a row of zeros under a width of 3, then four
+/// values under a width of 16, before its update. Six rows are left.
+fn unended(value: u32) -> [u8; UNIT] {
+    let mut bits = BitWriter::default();
+    write_row(&mut bits, &[Group::default(); 2], &[3, 3], 0);
+    bits.put(0b10, 2);
+    bits.unary(16);
+    (0..4).for_each(|_| bits.put(value, 16));
+    assert_eq!(bits.written(), 112);
+    let mut payload = bits.finish();
+    payload.resize(UNIT, 0);
+    payload.try_into().expect("one unit")
 }
 
 /// Document 01's example, one with a table entry for the same place, and a table of three.

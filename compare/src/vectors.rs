@@ -1,7 +1,7 @@
 //! The command `vectors`: fixed cases with the original's answers, for the program `replay`, in the
 //! format that README.md describes.
 
-use crate::oracle::{self, Planes};
+use crate::oracle::{self, Counts, Planes};
 use crate::packets::{packet, Room};
 use crate::records::{draw_styled, Recipe, Style};
 use crate::rng::Rng;
@@ -60,8 +60,8 @@ impl Vectors {
 
     /// Starts the case of an accepted tile; its planes follow.
     fn tile_head(&mut self, stream: &[u8], planes: &Planes) {
-        let size = planes.size;
-        self.case(&[stream.len(), 0, size.width, size.height(), size.rows(), planes.stopped]);
+        let (size, [broken, spent]) = (planes.size, counted(planes.counts));
+        self.case(&[stream.len(), 0, size.width, size.height(), size.rows(), broken, spent]);
         self.bytes(stream);
     }
 }
@@ -75,6 +75,12 @@ pub fn make(seed: u64) -> (Vec<u8>, String) {
     let line = |name: &str, cases: u32| format!("{name}: {cases} as they should be, 0 not\n");
     let text: String = kinds.iter().zip(KINDS).map(|(k, (name, _))| line(name, k.cases)).collect();
     (bytes, text + &line("of no kind", 0))
+}
+
+/// The two counts of a case, which make up the third.
+fn counted(Counts { stopped, broken, spent }: Counts) -> [usize; 2] {
+    assert_eq!(stopped, broken + spent, "broken and spent records are the stopped ones");
+    [broken as usize, spent as usize]
 }
 
 fn size(width: usize, height: usize) -> Size {
@@ -115,6 +121,12 @@ fn records(out: &mut Vectors, rng: &mut Rng) {
         put_records(out, rng, group, Style::Coded, true);
         put_records(out, rng, group, Style::Cut, true);
     }
+    for group in [0, 1, 2, 3, 4, 1, 2, 3, 4] {
+        for style in [Style::Brink, Style::Brink, Style::Spent, Style::Past] {
+            put_records(out, rng, group, style, false);
+        }
+        put_records(out, rng, group, Style::Brink, true);
+    }
 }
 
 /// A packet of records, most of them of the style, with one record fewer than expected if so
@@ -138,9 +150,10 @@ fn put_records(out: &mut Vectors, rng: &mut Rng, group: usize, style: Style, few
 }
 
 fn put_packet(out: &mut Vectors, packet: &[u8], shape: Shape, records: usize) {
-    let (coefficients, stopped) =
+    let (coefficients, counts) =
         oracle::packet_coefficients(packet, shape, records).expect("the packet is well formed");
-    out.case(&[packet.len(), shape.kind, shape.m, shape.columns, records, stopped]);
+    let [broken, spent] = counted(counts);
+    out.case(&[packet.len(), shape.kind, shape.m, shape.columns, records, broken, spent]);
     out.bytes(packet);
     out.numbers(&coefficients);
 }
@@ -164,12 +177,32 @@ fn tiles(out: &mut Vectors, rng: &mut Rng) {
     for (width, height) in sizes {
         for (mean, selector, odd) in [(0.5, 0, 0), (30.0, 4, 3), (3000.0, 15, 4)] {
             let recipe = Recipe { odd, fewer: 3, loose: true, ..Recipe::ordinary(mean, [0, selector]) };
-            let stream = assemble(&draw_parts(rng, size(width, height), &recipe));
-            put_tile(out, &stream.bytes);
+            put_drawn(out, rng, size(width, height), &recipe);
         }
     }
     put_tile(out, &directory_in_packet(rng).bytes);
     ordinary::put_ordinary(out, rng);
+    put_at_end(out, rng);
+}
+
+/// Tiles with records at the end of their allowance.
+fn put_at_end(out: &mut Vectors, rng: &mut Rng) {
+    for (width, height) in [(16, 16), (16, 18), (16, 32), (32, 16), (32, 34), (64, 18)] {
+        for (mean, selector) in [(0.3, 0), (30.0, 15)] {
+            let recipe = Recipe {
+                odd: 2,
+                styles: &Style::AT_END,
+                fewer: 3,
+                loose: true,
+                ..Recipe::ordinary(mean, [0, selector])
+            };
+            put_drawn(out, rng, size(width, height), &recipe);
+        }
+    }
+}
+
+fn put_drawn(out: &mut Vectors, rng: &mut Rng, size: Size, recipe: &Recipe) {
+    put_tile(out, &assemble(&draw_parts(rng, size, recipe)).bytes);
 }
 
 /// A stream whose fifth directory block is the first packet's header, with bytes after its end.
@@ -184,7 +217,7 @@ fn directory_in_packet(rng: &mut Rng) -> Stream {
 fn put_tile(out: &mut Vectors, stream: &[u8]) {
     let planes = match oracle::decode(stream, [usize::MAX; 4]) {
         Err(refusal) => {
-            out.case(&[stream.len(), refusal as usize, 0, 0, 0, 0]);
+            out.case(&[stream.len(), refusal as usize, 0, 0, 0, 0, 0]);
             return out.bytes(stream);
         }
         Ok(planes) => planes,

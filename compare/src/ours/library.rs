@@ -1,7 +1,17 @@
 //! The static libraries `libarw6.a` and `libcoefficients.a`.
 
 use super::{ffi, Decoded, Decoder, Lengths, PacketDecoder, Slices};
+use crate::oracle::Counts;
 use crate::size::Shape;
+
+/// The answer for a packet: whether it, the sizes and the band go together (1, else 0 in all
+/// fields), and its counts.
+#[repr(C)]
+struct Packet {
+    together: u64,
+    broken: u64,
+    spent: u64,
+}
 
 extern "C" {
     fn arw6_packet(
@@ -12,7 +22,7 @@ extern "C" {
         records: usize,
         band: *mut i32,
         band_len: usize,
-    ) -> u64;
+    ) -> Packet;
 }
 
 /// The proved library.
@@ -37,9 +47,9 @@ impl Decoder for Library {
 }
 
 impl PacketDecoder for Library {
-    fn packet(&self, packet: &[u8], shape: Shape, records: usize, band: &mut [i32]) -> Option<usize> {
+    fn packet(&self, packet: &[u8], shape: Shape, records: usize, band: &mut [i32]) -> Option<Counts> {
         // SAFETY: each pointer and length are those of one slice, which share no byte.
-        let answer = unsafe {
+        let Packet { together, broken, spent } = unsafe {
             arw6_packet(
                 packet.as_ptr(),
                 packet.len(),
@@ -50,6 +60,6 @@ impl PacketDecoder for Library {
                 band.len(),
             )
         };
-        answer.checked_sub(1).map(|stopped| stopped as usize)
+        (together == 1).then_some(Counts { stopped: broken + spent, broken, spent })
     }
 }

@@ -1,7 +1,7 @@
 //! The original behind the library's interface, so that the driver can be tested alone.
 
 use super::{Decoded, Decoder, Lengths, PacketDecoder, Slices};
-use crate::oracle;
+use crate::oracle::{self, Counts};
 use crate::size::Shape;
 
 pub struct Mock;
@@ -22,38 +22,31 @@ impl Decoder for Mock {
 
     fn decode_stream(&self, stream: &[u8], slices: &mut Slices) -> Decoded {
         let lent = std::array::from_fn(|i| slices[i].len());
-        match oracle::decode(stream, lent) {
-            Err(refusal) => Decoded { refusal, ..Decoded::default() },
-            Ok(planes) => write(planes, slices),
+        let answer = oracle::decode(stream, lent);
+        if let Ok(planes) = &answer {
+            write(planes, slices);
         }
+        Decoded::by(answer.as_ref())
     }
 }
 
 impl PacketDecoder for Mock {
-    fn packet(&self, packet: &[u8], shape: Shape, records: usize, band: &mut [i32]) -> Option<usize> {
-        let (coefficients, stopped) = oracle::packet_coefficients(packet, shape, records).ok()?;
+    fn packet(&self, packet: &[u8], shape: Shape, records: usize, band: &mut [i32]) -> Option<Counts> {
+        let (coefficients, counts) = oracle::packet_coefficients(packet, shape, records).ok()?;
         if coefficients.len() != band.len() {
             return None;
         }
         band.copy_from_slice(&coefficients);
-        Some(stopped)
+        Some(counts)
     }
 }
 
 /// Writes the planes to the start of the slices and clears the work slice as far as it is needed.
-fn write(planes: oracle::Planes, [green, red, blue, work]: &mut Slices) -> Decoded {
-    let size = planes.size;
+fn write(planes: &oracle::Planes, [green, red, blue, work]: &mut Slices) {
     for (slice, plane) in [(green, &planes.green), (red, &planes.red), (blue, &planes.blue)] {
         slice[..plane.len()].copy_from_slice(plane);
     }
-    work[..size.needed()[3]].fill(0);
-    Decoded {
-        refusal: 0,
-        width: size.width as u64,
-        height: size.height() as u64,
-        rows: size.rows() as u64,
-        stopped: planes.stopped as u64,
-    }
+    work[..planes.size.needed()[3]].fill(0);
 }
 
 /// A decoder with one mistake.

@@ -1,6 +1,7 @@
 //! The vectors are read back and held against the original.
 
 use super::*;
+use crate::oracle::Course;
 
 /// A reader of the format.
 struct Reader<'a>(&'a [u8]);
@@ -78,35 +79,70 @@ fn refusals_read_back() {
     assert!((2..=24).all(|number| counts[number] >= 5), "{counts:?}");
 }
 
+fn counts(broken: usize, spent: usize) -> Counts {
+    let [broken, spent] = [broken, spent].map(|count| count as u64);
+    Counts { stopped: broken + spent, broken, spent }
+}
+
+/// Records that stay broken, that turn, that are spent in their first row and later, and that are
+/// whole.
+#[derive(Default)]
+struct Kinds([usize; 5]);
+
+impl Kinds {
+    fn add(&mut self, courses: &[Course]) {
+        for course in courses {
+            let kind = match (course.first(), course.last()) {
+                (1, 1) => 0,
+                (1, _) => 1,
+                (2, _) if course.0[0] == 2 => 2,
+                (2, _) => 3,
+                _ => 4,
+            };
+            self.0[kind] += 1;
+        }
+    }
+
+    fn all_there(&self) {
+        assert!(self.0.iter().all(|&count| count >= 50), "{:?}", self.0);
+    }
+}
+
 #[test]
 fn records_read_back() {
-    let mut stopped_in_all = 0;
-    read_all("records", 100_000, |r| {
-        let [length, kind, m, columns, records, stopped] = r.words();
+    let mut seen = Kinds::default();
+    read_all("records", 150_000, |r| {
+        let [length, kind, m, columns, records, broken, spent] = r.words();
         let packet = r.take(length);
         let shape = Shape { kind, m, columns };
         let numbers = r.numbers(records * shape.numbers());
-        assert_eq!(oracle::packet_coefficients(packet, shape, records), Ok((numbers, stopped)));
-        stopped_in_all += stopped;
+        assert_eq!(oracle::packet_coefficients(packet, shape, records), Ok((numbers, counts(broken, spent))));
+        assert!(records * shape.numbers() <= 1024 && kind.max(m).max(columns).max(records) < 256);
+        seen.add(&oracle::packet_courses(packet, shape).unwrap());
     });
-    assert!(stopped_in_all > 0);
+    seen.all_there();
 }
 
 #[test]
 fn tiles_read_back() {
-    read_all("tiles", 500_000, |r| {
-        let [length, refusal, width, height, rows, stopped] = r.words();
+    let mut seen = Kinds::default();
+    read_all("tiles", 600_000, |r| {
+        let [length, refusal, width, height, rows, broken, spent] = r.words();
         let stream = r.take(length);
         let planes = [width, width / 2, width / 2].map(|columns| r.numbers(rows * columns));
         match oracle::decode(stream, [usize::MAX; 4]) {
-            Err(number) => assert_eq!((refusal, rows), (number as usize, 0)),
+            Err(number) => assert_eq!([refusal, rows, broken, spent], [number as usize, 0, 0, 0]),
             Ok(found) => {
                 assert_eq!([found.green, found.red, found.blue], planes);
                 let size = (found.size.width, found.size.height(), found.size.rows());
-                assert_eq!((size, found.stopped), ((width, height, rows), stopped));
+                assert_eq!((size, found.counts), ((width, height, rows), counts(broken, spent)));
+                let most = found.size.needed();
+                assert!(most[0] <= 1024 && most[1] <= 512 && most[3] <= 4096 && width.max(height) < 256);
+                seen.add(&oracle::courses(stream, found.size).unwrap());
             }
         }
     });
+    seen.all_there();
 }
 
 #[test]
