@@ -1,10 +1,9 @@
 // The coefficients of one packet for C.
 ghost use mathlib.Core.Path.{_≡_};
 ghost use mathlib.Core.Bool.{cond};
-ghost use Prim.Native.Nat.{_+_};
 ghost use lib.ListN.{length};
-ghost use Rattle.format.specs.Coefficients.{packetValues, packetStopped};
-ghost use Rattle.coefficients.specs.Together.{together};
+ghost use Rattle.format.specs.Coefficients.{packetValues};
+ghost use Rattle.coefficients.specs.Together.{together, answerOf};
 use fields::blocks;
 use fields::kind;
 use records::decode_packet;
@@ -34,8 +33,16 @@ fn fits(packet: &[u8], m: usize, cols: usize, n: usize, size: usize) -> bool
     size == n * (kind(packet) * m * cols)
 }
 
-// The coefficients of a packet of n records, those that are missing with them, into a band of their size: how many records stopped,
-// and 1; 0, with the band as it was, where packet, sizes and band do not go together.
+// Whether packet, sizes and band go together, 1 or 0, and how many records of the packet are broken and spent.
+#[repr(C)]
+pub struct PacketCounts {
+    pub together: u64,
+    pub broken: u64,
+    pub spent: u64,
+}
+
+// The coefficients of a packet of n records, those that are missing with them, into a band of their size, with the counts; all fields 0, with
+// the band as it was, where packet, sizes and band do not go together.
 #[no_mangle]
 pub extern "C" fn arw6_packet(
     packet: &[u8],
@@ -43,12 +50,21 @@ pub extern "C" fn arw6_packet(
     cols: usize,
     n: usize,
     band: &mut [i32],
-) -> u64
-    ensures { λ r. ⌜ r ≡ cond (together (now (packet .entry)) m cols n (length (now (band .entry)))) (packetStopped (now (packet .entry)) m cols + 1) 0 ⌝ }
+) -> PacketCounts
+    ensures { λ r. ⌜ r ≡ answerOf (together (now (packet .entry)) m cols n (length (now (band .entry)))) (now (packet .entry)) m cols ⌝ }
     ensures { λ r. ⌜ now (band .exit) ≡ cond (together (now (packet .entry)) m cols n (length (now (band .entry)))) (packetValues (now (packet .entry)) m cols n) (now (band .entry)) ⌝ }
 {
     if !fits(packet, m, cols, n, band.len()) {
-        return 0;
+        return PacketCounts {
+            together: 0,
+            broken: 0,
+            spent: 0,
+        };
     }
-    decode_packet(packet, m, cols, n, band) + 1
+    let counts = decode_packet(packet, m, cols, n, band);
+    PacketCounts {
+        together: 1,
+        broken: counts.broken,
+        spent: counts.spent,
+    }
 }

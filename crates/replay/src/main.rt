@@ -39,11 +39,12 @@ fn next_kind() -> usize
 
 // The bytes of the words that lead a case of a kind; the first word is the length of its input.
 fn head_length(kind: usize) -> usize
-    ensures { λ r. ⌜ r ≤ 24 ⌝ }
+    ensures { λ r. ⌜ r ≤ 28 ⌝ }
 {
     match kind {
         STRIPS => 16,
-        REFUSALS | RECORDS | TILES => 24,
+        REFUSALS => 24,
+        RECORDS | TILES => 28,
         LISTINGS => 8,
         _ => 0,
     }
@@ -51,7 +52,7 @@ fn head_length(kind: usize) -> usize
 
 // The bytes of its answer.
 fn answer_length(kind: usize, head: &[u8]) -> usize
-    requires { ⌜ 24 ≤ length (now head) ⌝ }
+    requires { ⌜ 28 ≤ length (now head) ⌝ }
 {
     match kind {
         STRIPS => strips::answer_length(head),
@@ -64,7 +65,7 @@ fn answer_length(kind: usize, head: &[u8]) -> usize
 
 // Whether the input comes out as the answer says.
 fn right_answer(kind: usize, head: &[u8], input: &[u8], answer: &[u8]) -> bool
-    requires { ⌜ 24 ≤ length (now head) ⌝ }
+    requires { ⌜ 28 ≤ length (now head) ⌝ }
 {
     match kind {
         STRIPS => strips::right_case(head, input, answer),
@@ -78,7 +79,7 @@ fn right_answer(kind: usize, head: &[u8], input: &[u8], answer: &[u8]) -> bool
 
 // Reads the words of a case; false where the input ends before.
 fn read_head(kind: usize, head: &mut [u8]) -> bool
-    requires { ⌜ 24 ≤ length (now head) ⌝ }
+    requires { ⌜ 28 ≤ length (now head) ⌝ }
 {
     let n = head_length(kind);
     read(&mut head[0..n])
@@ -86,7 +87,7 @@ fn read_head(kind: usize, head: &mut [u8]) -> bool
 
 // Reads the input and the answer of a case: whether both are whole, and the one comes out as the other says.
 fn read_case(kind: usize, head: &[u8], input: &mut [u8], answer: &mut [u8]) -> bool
-    requires { ⌜ 24 ≤ length (now head) ⌝ }
+    requires { ⌜ 28 ≤ length (now head) ⌝ }
 {
     let n = word(head, 0);
     let end = answer_length(kind, head);
@@ -107,7 +108,7 @@ fn read_case(kind: usize, head: &[u8], input: &mut [u8], answer: &mut [u8]) -> b
 
 // Whether the next case, which is of that kind, comes out as it should. There is room for an input of one byte more than `tiles` takes.
 fn right_case(kind: usize) -> bool {
-    let mut head = [0u8; 24];
+    let mut head = [0u8; 28];
     let mut input = [0u8; 65537];
     let mut answer = [0u8; 8192];
     if !read_head(kind, &mut head) {

@@ -1,6 +1,6 @@
 // Tiles: `tile::decode_stream` on a stream, and its answer and what the four lent slices should hold; and the stream's lengths. A case is
-// six little-endian words (the stream's length, refusal, width, height, rows, stopped records), the stream's bytes, and a word for each
-// number of green, red and blue. A refused stream has 0 in the last four words, and no planes.
+// seven little-endian words (the stream's length, refusal, width, height, rows, broken records, spent records), the stream's bytes, and a
+// word for each number of green, red and blue. A refused stream has 0 in the last five words, and no planes.
 ghost use Prim.Native.Nat.{_<_, _≤_, _^_};
 ghost use lib.ListN.{length};
 use crate::vectors::all;
@@ -14,9 +14,24 @@ use tile::decode_stream;
 // What the lent slices hold before the call, and where nothing is to be written also after it.
 const PATTERN: i32 = 77;
 
+// Whether the counts are those of the case, and stopped is their sum.
+fn right_counts(head: &[u8], answer: Decoded) -> bool
+    requires { ⌜ 28 ≤ length (now head) ⌝ }
+{
+    let broken = word(head, 20);
+    let spent = word(head, 24);
+    if answer.broken != broken as u64 {
+        return false;
+    }
+    if answer.spent != spent as u64 {
+        return false;
+    }
+    answer.stopped == (broken + spent) as u64
+}
+
 // Whether the answer is the one of the case.
 fn right_answer(head: &[u8], answer: Decoded) -> bool
-    requires { ⌜ 24 ≤ length (now head) ⌝ }
+    requires { ⌜ 28 ≤ length (now head) ⌝ }
 {
     if answer.refusal != word(head, 4) as u64 {
         return false;
@@ -30,7 +45,7 @@ fn right_answer(head: &[u8], answer: Decoded) -> bool
     if answer.rows != word(head, 16) as u64 {
         return false;
     }
-    answer.stopped == word(head, 20) as u64
+    right_counts(head, answer)
 }
 
 // Whether a slice starts with the words of b, and holds the pattern after them.
@@ -71,7 +86,7 @@ fn right_work(work: &[i32], n: usize) -> bool {
 
 // The numbers of work that a tile uses.
 fn work_length(head: &[u8]) -> usize
-    requires { ⌜ 24 ≤ length (now head) ⌝ }
+    requires { ⌜ 28 ≤ length (now head) ⌝ }
 {
     let w = small(head, 8);
     let n = (small(head, 12) + 15) / 16;
@@ -80,7 +95,7 @@ fn work_length(head: &[u8]) -> usize
 
 // Whether an accepted stream's lengths are those of the case: its size and rows, and as many numbers as its planes have.
 fn right_lengths(head: &[u8], stream: &[u8], want: &[u8]) -> bool
-    requires { ⌜ 24 ≤ length (now head) ⌝ }
+    requires { ⌜ 28 ≤ length (now head) ⌝ }
 {
     let work = work_length(head) as u64;
     let need = lengths_of(stream);
@@ -110,7 +125,7 @@ fn right_lengths(head: &[u8], stream: &[u8], want: &[u8]) -> bool
 
 // Decodes a stream into slices longer than it asks for, and compares.
 pub fn right_case(head: &[u8], stream: &[u8], want: &[u8]) -> bool
-    requires { ⌜ 24 ≤ length (now head) ⌝ }
+    requires { ⌜ 28 ≤ length (now head) ⌝ }
 {
     let mut green = [PATTERN; 1024];
     let mut red = [PATTERN; 512];
@@ -131,7 +146,7 @@ pub fn right_case(head: &[u8], stream: &[u8], want: &[u8]) -> bool
 
 // The bytes of the planes: green has rows · width words, red and blue have half as many each.
 pub fn answer_length(head: &[u8]) -> usize
-    requires { ⌜ 24 ≤ length (now head) ⌝ }
+    requires { ⌜ 28 ≤ length (now head) ⌝ }
     ensures { λ r. ⌜ r < 2 ^ 19 ⌝ }
 {
     8 * (small(head, 8) * small(head, 16))

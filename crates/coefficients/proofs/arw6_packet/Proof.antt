@@ -1,10 +1,7 @@
 -- `coefficients::arw6_packet` meets its contract. Assumes nothing.
 use borrow.Author.Needs.{needs}
 use borrow.Author.Tests.{not-true, not-false}
-use mathlib.Core.Path.{sym, ap, _∙_}
-use Prim.Native.Nat.{ℕ, _+_}
-use native.Mathlib.Omega.{arith}
-use Rattle.records.proofs.StoppedLaws.{stopped-lt}
+use mathlib.Core.Path.{sym, _∙_}
 use Rattle.coefficients.proofs.TogetherLaws.{together-holds}
 use Rattle.coefficients.proofs.arw6_packet.Statement.{statement}
 use Rattle.coefficients.proofs.arw6_packet.Tie as tie
@@ -17,17 +14,13 @@ decode-packet-requires c κs =
     let e = c .before in
     together-holds _ _ _ _ _ (sym (e .before .fits2 .ensures) ∙ not-false (e .before .fits2 .result) (e .if1 .left))
 
-add-result : tie.Need-add-result
-add-result c =
-    let a = c .before .before .before .before .before .before .args in
-    omega (arith, c .before .decode-packet .ensures .0, stopped-lt (a .packet .now) (a .m) (a .cols))
-
 returns-2 : tie.Need-returns-2
 returns-2 c =
     let d = c .before .decode-packet in
     let e = c .before .before .before in
     let yes = sym (e .before .fits2 .ensures) ∙ not-false (e .before .fits2 .result) (e .if1 .left) in
-    (simp yes (ap (λ (k : ℕ). k + 1) (d .ensures .0)), simp yes (d .ensures .1))
+    let counts = d .ensures .0 in
+    (simp yes (λ j. record { together = 1; broken = counts j .broken; spent = counts j .spent }), simp yes (d .ensures .1))
 
 pub arw6-packet-spec : {M : Type 1} → statement M
 arw6-packet-spec =
@@ -36,6 +29,5 @@ arw6-packet-spec =
     (λ c κs. search needs)
     returns
     decode-packet-requires
-    add-result
     (λ c. search needs)
     returns-2)
