@@ -13,9 +13,9 @@
 #include <stddef.h>
 #include <stdint.h>
 
-#define ARW6_VERSION "0.2.0"
+#define ARW6_VERSION "0.3.0"
 #define ARW6_VERSION_MAJOR 0
-#define ARW6_VERSION_MINOR 2
+#define ARW6_VERSION_MINOR 3
 #define ARW6_VERSION_PATCH 0
 
 #ifdef __cplusplus
