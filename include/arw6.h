@@ -58,8 +58,9 @@ struct arw6_lengths arw6_lengths(const uint8_t *stream, size_t stream_len);
 
 /* What decoding one tile answers. A refusal from 2 to 24 comes with every other field 0.
 
-   A record that stops early is 0 from there on. It goes by what it met first: broken, a width above 19, or spent, the end of its allowance
-   of bits. Broken records are damage. Spent ones are ordinary: on an evenly lit lining the coder lets records run out on purpose. */
+   A record that stops early is 0 from there on, and goes by what it met first: a width above 19 makes it broken, the end of its allowance
+   of bits makes it spent. Broken records are damage. Spent ones are ordinary: on an evenly lit lining the coder lets records run out on
+   purpose. */
 struct arw6_decoded {
     uint64_t refusal; /* 0: accepted */
     uint64_t width;   /* as in arw6_lengths */
