@@ -147,8 +147,8 @@ static int decode_tile(const uint8_t *stream, size_t length, size_t tile, const 
     work = lend(need.work);
     if (green && red && blue && work) {
         got = arw6_decode_stream(stream, length, green, need.green, red, need.red, blue, need.blue, work, need.work);
-        if (got.stopped)
-            fprintf(stderr, "tile %zu: %llu records stopped early; the picture may be damaged\n", tile, (unsigned long long)got.stopped);
+        if (got.broken) /* spent records are ordinary */
+            fprintf(stderr, "tile %zu: broken records: %llu; the picture is damaged there\n", tile, (unsigned long long)got.broken);
         done = got.refusal ? refused(tile, got.refusal) : write_picture(name, green, got.width, coded_rows(got));
     } else {
         fprintf(stderr, "tile %zu: not enough memory\n", tile);

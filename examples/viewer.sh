@@ -38,4 +38,16 @@ told 1 'tile 0: refusal 9: a packet is missing' 16 16 "$out/example.strip" "$out
 told 1 'No such file' 640 480 "$out/joint.strip" "$out/missing/joint"
 told 2 'usage' 16 0x10 "$out/example.strip"
 told 2 'usage' 16
+
+# changed NAME PLACE BYTES: the joint with other bytes at a place of its last packet.
+changed() {
+    cp "$out/joint.strip" "$out/$1.strip"
+    printf "$3" | dd of="$out/$1.strip" bs=1 seek="$2" conv=notrunc status=none
+}
+# The first record opens with a width of 20; the last one keeps 128 bits, of which nothing is said.
+changed broken 164272 '\200\000\004'
+changed spent 164267 '\000\020'
+told 0 'tile 1: broken records: 1; the picture is damaged there' 640 480 "$out/broken.strip" "$out/broken"
+"$out/viewer" 640 480 "$out/spent.strip" "$out/spent" > "$out/printed" 2> "$out/told"
+cmp "$out/told" /dev/null
 echo "viewer: ok"

@@ -13,9 +13,9 @@
 #include <stddef.h>
 #include <stdint.h>
 
-#define ARW6_VERSION "0.2.0"
+#define ARW6_VERSION "0.3.0"
 #define ARW6_VERSION_MAJOR 0
-#define ARW6_VERSION_MINOR 2
+#define ARW6_VERSION_MINOR 3
 #define ARW6_VERSION_PATCH 0
 
 #ifdef __cplusplus
@@ -56,15 +56,19 @@ struct arw6_lengths {
    is lent; without one, slices of these lengths or longer are never too short for it. */
 struct arw6_lengths arw6_lengths(const uint8_t *stream, size_t stream_len);
 
-/* What decoding one tile answers. A refusal from 2 to 24 comes with every other field 0. */
+/* What decoding one tile answers. A refusal from 2 to 24 comes with every other field 0.
+
+   A record that stops early is 0 from there on, and goes by what it met first: a width above 19 makes it broken, the end of its allowance
+   of bits makes it spent. Broken records are damage. Spent ones are ordinary: on an evenly lit lining the coder lets records run out on
+   purpose. */
 struct arw6_decoded {
     uint64_t refusal; /* 0: accepted */
     uint64_t width;   /* as in arw6_lengths */
     uint64_t height;
     uint64_t rows;
-    uint64_t stopped; /* records whose decoding stopped early: broken + spent */
-    uint64_t broken;  /* of these, the records that met a width above 19 first: damage */
-    uint64_t spent;   /* and those that ran past their allowance first, as coders let them on an evenly lit wall */
+    uint64_t stopped; /* records that stopped early: broken + spent */
+    uint64_t broken;  /* records that first met a width above 19: damage */
+    uint64_t spent;   /* records that first ran past their allowance: ordinary */
 };
 
 /* Decodes the stream of one tile, of stream_len bytes.

@@ -31,8 +31,12 @@ pub struct DecodedTile {
     pub width: usize,
     /// Coded height.
     pub height: usize,
-    /// Records that stopped early: out of bits, or with a bit width above 19.
+    /// Records whose decoding stopped early: the broken and the spent ones together.
     pub stopped: usize,
+    /// Records that first met a bit width above 19, which is damage.
+    pub broken: usize,
+    /// Records that first ran past their bits, as the coder lets them on an evenly lit lining.
+    pub spent: usize,
 }
 
 /// What a call that was accepted says of the planes it wrote.
@@ -45,14 +49,18 @@ pub struct Decoded {
     pub height: usize,
     /// Rows of each plane.
     pub rows: usize,
-    /// Records that stopped early.
+    /// Records whose decoding stopped early: the broken and the spent ones together.
     pub stopped: usize,
+    /// Records that first met a bit width above 19, which is damage.
+    pub broken: usize,
+    /// Records that first ran past their bits, as the coder lets them on an evenly lit lining.
+    pub spent: usize,
 }
 
 /// Decodes one tile stream. `_parallel` is the original's and is ignored: the order is plain.
 pub fn decode_stream(stream: &[u8], _parallel: bool) -> Result<DecodedTile, Error> {
     let mut buffers = Buffers::default();
-    let Decoded { width, height, rows, stopped } = buffers.decode(stream)?.decoded;
+    let Decoded { width, height, rows, stopped, broken, spent } = buffers.decode(stream)?.decoded;
     let plane = |cols: usize, data: Vec<i32>| Plane { rows, cols, data };
     Ok(DecodedTile {
         full_green: plane(width, buffers.green),
@@ -61,6 +69,8 @@ pub fn decode_stream(stream: &[u8], _parallel: bool) -> Result<DecodedTile, Erro
         width,
         height,
         stopped,
+        broken,
+        spent,
     })
 }
 
@@ -81,6 +91,8 @@ pub fn decode_stream_into(
             height: answer.height as usize,
             rows: answer.rows as usize,
             stopped: answer.stopped as usize,
+            broken: answer.broken as usize,
+            spent: answer.spent as usize,
         }),
         number => Err(Refusal::new(number)),
     }

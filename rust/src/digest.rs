@@ -56,6 +56,8 @@ mod tests {
             width: 0x0102,
             height: 0x0304,
             stopped: 9,
+            broken: 4,
+            spent: 5,
         };
         let mut hash = Sha256::default();
         hash.update(b"ARW6 planes 1\n\x02\x01\0\0\x04\x03\0\0");

@@ -14,7 +14,8 @@ pub struct Lengths {
     pub work: u64,
 }
 
-/// The answer for a stream; a refusal has 0 in all other fields. The height is the coded height H.
+/// The answer for a stream; a refusal has 0 in all other fields. The height is the coded height H, and
+/// `stopped` is the sum of `broken` and `spent`.
 #[repr(C)]
 #[derive(Debug, Clone, Copy, Default, PartialEq, Eq)]
 pub struct Decoded {

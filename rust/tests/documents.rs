@@ -4,7 +4,7 @@ mod support;
 
 use arw6::meaning;
 use std::process::Command;
-use support::tool::{file, folder, outcome, TOOL};
+use support::tool::{file, folder, outcome, run, word, SAMPLE_FILE, TOOL};
 
 const README: &str = include_str!("../../README.md");
 const HEADER: &str = include_str!("../../include/arw6.h");
@@ -57,4 +57,7 @@ fn the_sample_as_shown() {
         let output = Command::new(TOOL).args([command, "samples/joint.frame"]).current_dir(root).output();
         assert!(README.contains(&outcome(output.unwrap()).1));
     }
+    let out = folder("sample-as-shown");
+    let lines = run(&["planes", SAMPLE_FILE, "--out", word(&out)]).1;
+    assert!(README.contains(lines.split_once('\n').unwrap().1));
 }

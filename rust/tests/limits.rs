@@ -15,12 +15,13 @@ fn memory_that_cannot_be_had() {
     let bytes = repeated_tile(65_520, 4096, 16);
     assert!(bytes.len() < 20_000);
     let large = file(&folder, "large.frame", &bytes);
-    for command in ["digest", "planes --force --out \"$3\""] {
+    let commands = [("digest", "stopped 0"), ("planes --force --out \"$3\"", "broken 0 spent 0")];
+    for (command, counts) in commands {
         let script = format!("ulimit -v 1000000; exec \"$0\" {command} \"$1\" \"$2\"");
         let (status, out, error) = shell(&script, &[&large, SAMPLE_FILE, word(&folder)]);
         let expected = format!("arw6: {large}: tile 0: the memory for its planes, 2152 MB, cannot be had\n");
         assert_eq!((status, error), (1, expected));
-        assert!(out.contains("stopped 0") && out.lines().count() >= 2);
+        assert!(out.contains(counts) && out.lines().count() >= 2);
         assert!(!folder.join("large.frame.planes").exists());
     }
     let (status, out, error) = shell("ulimit -v 1000000; exec \"$0\" tiles \"$1\"", &[&large]);

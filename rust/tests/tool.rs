@@ -5,12 +5,15 @@ mod support;
 use arw6::decode_stream;
 use std::fs;
 use std::io::Write;
+use std::path::Path;
 use std::process::{Command, Stdio};
 use support::tiff::{camera_file, ORDERS};
 use support::tool::{file, folder, names, outcome, run, word, NAMES, SAMPLE_FILE, TOOL};
-use support::{damaged, spoilt, stream, strip, FRAME, SAMPLE};
+use support::{damaged, frame_with, spoilt, stream, strip};
+use support::{BROKEN, FRAME, GROUP_3, GROUP_4, SAMPLE, SPENT};
 
-const LISTING: &str = "tiles 2\n512 92336 0 0 320 480 stopped 0\n92848 95072 320 0 320 480 stopped 0\n";
+const LISTING: &str =
+    "tiles 2\n512 92336 0 0 320 480 broken 0 spent 0\n92848 95072 320 0 320 480 broken 0 spent 0\n";
 
 /// Each file below samples/ is named from the repository's root in samples/joint.digest.
 fn digests(path: &str) -> String {
@@ -114,8 +117,8 @@ fn planes() {
     assert_eq!((status, error.as_str()), (0, ""));
     let target = out.join("joint.frame.planes");
     let expected = format!(
-        "{}\n  tile 0 at 0,0: 320x480, rows 240, green -1639 to 1662, red 1 to 102, blue -74 to 3, stopped 0\n  \
-         tile 1 at 320,0: 320x480, rows 240, green -1638 to 1262, red 1 to 219, blue -156 to 2, stopped 0\n",
+        "{}\n  tile 0 at 0,0: 320x480, rows 240, green -1639 to 1662, red 1 to 102, blue -74 to 3, broken 0 spent 0\n  \
+         tile 1 at 320,0: 320x480, rows 240, green -1638 to 1262, red 1 to 219, blue -156 to 2, broken 0 spent 0\n",
         target.display()
     );
     assert_eq!(lines, expected);
@@ -153,7 +156,7 @@ fn a_refused_file_writes_nothing() {
     assert_eq!(error, format!("arw6: {path}: tile 1: refusal 9: a packet is missing\n"));
     assert!(names(&out).is_empty());
     assert_eq!(run(&["digest", &path]), (1, String::new(), error.clone()));
-    let listing = "tiles 2\n512 92336 0 0 320 480 stopped 0\n92848 95072 320 0 320 480 refused 9\n";
+    let listing = "tiles 2\n512 92336 0 0 320 480 broken 0 spent 0\n92848 95072 320 0 320 480 refused 9\n";
     assert_eq!(run(&["tiles", &path]), (1, listing.to_string(), error));
 }
 
@@ -171,24 +174,61 @@ fn good_files_are_written_beside_a_refused_one() {
 fn damage() {
     let folder = folder("damage");
     let path = file(&folder, "flipped.frame", &damaged());
-    let stopped = decode_stream(&damaged()[8 + 92848..], false).unwrap().stopped;
-    assert!(stopped > 0);
-    let warning = format!(
-        "arw6: warning: {path}: records stopped early (tile 1: {stopped}); the picture may be damaged\n"
-    );
-    let out = folder.join("out");
-    let commands: [&[&str]; 3] = [&["tiles"], &["digest"], &["planes", "--force", "--out", word(&out)]];
-    for command in commands {
-        let words = [command, &[path.as_str()]].concat();
+    let tile = decode_stream(&damaged()[8 + 92848..], false).unwrap();
+    let (stopped, broken, spent) = (tile.stopped, tile.broken, tile.spent);
+    assert!(broken > 0);
+    let warning =
+        format!("arw6: warning: {path}: broken records (tile 1: {broken}); the picture is damaged there\n");
+    for (words, counts) in commands(&folder.join("out")) {
+        let words = [&words[..], &[path.as_str()]].concat();
         let (status, lines, error) = run(&words);
         assert_eq!((status, &error), (0, &warning));
-        assert!(lines.contains("stopped 0") && lines.contains(&format!("stopped {stopped}")));
+        assert!(lines.contains(&counts(0, 0)) && lines.contains(&counts(broken, spent)));
         let strict = run(&[&words[..], &["--strict"]].concat());
         assert_eq!(strict, (1, lines, error));
     }
-    let told = fs::read_to_string(out.join("flipped.frame.planes/tiles.json")).unwrap();
-    assert!(told.contains(&format!("\"stopped\":{stopped}")));
+    let told = fs::read_to_string(folder.join("out/flipped.frame.planes/tiles.json")).unwrap();
+    assert!(told.contains(&format!("\"stopped\":{stopped},\"broken\":{broken},\"spent\":{spent}")));
     assert_eq!(run(&["tiles", "--strict", SAMPLE_FILE]).0, 0);
+}
+
+/// How a command's output has broken and spent records.
+type Counts = fn(usize, usize) -> String;
+
+/// The commands that decode, and how each says the counts.
+fn commands(out: &Path) -> [(Vec<&str>, Counts); 3] {
+    let both: Counts = |broken, spent| format!(" broken {broken} spent {spent}\n");
+    let sum: Counts = |broken, spent| format!(" stopped {} ", broken + spent);
+    [(vec!["tiles"], both), (vec!["digest"], sum), (vec!["planes", "--force", "--out", word(out)], both)]
+}
+
+/// On an evenly lit lining records are spent: they are counted, and nothing is said of damage.
+#[test]
+fn spent_records() {
+    let folder = folder("spent");
+    let path = file(&folder, "lining.frame", &frame_with(&[(GROUP_3, &SPENT), (GROUP_4, &SPENT)]));
+    for (words, counts) in commands(&folder.join("out")) {
+        let words = [&words[..], &["--strict", &path]].concat();
+        let (status, lines, error) = run(&words);
+        assert_eq!((status, error.as_str()), (0, ""));
+        assert_eq!(lines.matches(&counts(0, 2)).count(), 2, "{lines}");
+        let json = run(&[&words[..], &["--json"]].concat()).1;
+        assert_eq!(json.matches("\"stopped\":2,\"broken\":0,\"spent\":2").count(), 2);
+    }
+    let list = file(&folder, "LIST", run(&["digest", &path]).1.as_bytes());
+    let checked = format!("{path}: tile 0: OK\n{path}: tile 1: OK\n");
+    assert_eq!(run(&["digest", "--check", "--strict", &list]), (0, checked, String::new()));
+}
+
+/// A record that is broken first stays so, though its bits run out afterwards.
+#[test]
+fn broken_beside_spent_records() {
+    let folder = folder("broken");
+    let path = file(&folder, "both.frame", &frame_with(&[(GROUP_3, &BROKEN), (GROUP_4, &SPENT)]));
+    let (status, lines, error) = run(&["tiles", "--strict", &path]);
+    assert_eq!((status, lines.matches(" 48 32 broken 1 spent 1\n").count()), (1, 2));
+    let told = "broken records (tile 0: 1, tile 1: 1); the picture is damaged there";
+    assert_eq!(error, format!("arw6: warning: {path}: {told}\n"));
 }
 
 #[test]
@@ -198,7 +238,7 @@ fn json() {
     let (status, out, _) = run(&["tiles", "--json", &good, &bad, "nowhere"]);
     let lines: Vec<&str> = out.lines().collect();
     assert_eq!((status, lines.len()), (1, 3));
-    let first = "\"tile\":0,\"offset\":512,\"length\":92336,\"x\":0,\"y\":0,\"width\":320,\"height\":480,\"rows\":240,\"stopped\":0}";
+    let first = "\"tile\":0,\"offset\":512,\"length\":92336,\"x\":0,\"y\":0,\"width\":320,\"height\":480,\"rows\":240,\"stopped\":0,\"broken\":0,\"spent\":0}";
     assert!(lines[0].starts_with(&format!(
         "{{\"file\":\"{good}\",\"frame\":{{\"width\":640,\"height\":480}},\"tiles\":[{{{first},"
     )));
@@ -206,7 +246,7 @@ fn json() {
     assert!(lines[2].starts_with("{\"file\":\"nowhere\",\"error\":\""));
     let (_, out, _) = run(&["digest", "--json", &good]);
     let digest = support::DIGESTS.split(' ').nth(1).unwrap();
-    let fields = format!("\"tile\":0,\"tiles\":2,\"definition\":\"ARW6-planes-1\",\"digest\":\"{digest}\",\"width\":320,\"height\":480,\"rows\":240,\"stopped\":0");
+    let fields = format!("\"tile\":0,\"tiles\":2,\"definition\":\"ARW6-planes-1\",\"digest\":\"{digest}\",\"width\":320,\"height\":480,\"rows\":240,\"stopped\":0,\"broken\":0,\"spent\":0");
     assert_eq!(out.lines().next(), Some(format!("{{\"file\":\"{good}\",{fields}}}").as_str()));
     let out = run(&["planes", "--json", &good, "-o", word(&folder.join("out"))]).1;
     assert!(out.contains("\"folder\":\"") && out.contains("\"green\":{\"least\":-1639,\"greatest\":1662}"));

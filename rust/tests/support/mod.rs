@@ -67,10 +67,42 @@ pub fn frame_file(frame: (usize, usize), strip: &[u8]) -> Vec<u8> {
 
 /// A frame file of one flat tile that its table names so often.
 pub fn repeated_tile(width: usize, height: usize, times: usize) -> Vec<u8> {
+    repeated_stream((width, height), &flat_stream(width, height), times)
+}
+
+fn repeated_stream(frame: (usize, usize), stream: &[u8], times: usize) -> Vec<u8> {
     let mut strip = vec![0; 512];
     strip[0] = times as u8;
-    strip.extend(flat_stream(width, height));
-    frame_file((width, height), &strip)
+    strip.extend(stream);
+    frame_file(frame, &strip)
+}
+
+/// Bytes of a record that its rows in group 3 or 4 run past; 16 zeros more, and they do not.
+pub const SPENT: [u8; 16] = [0xff; 16];
+
+/// Bytes of a record that opens with a width of 126, in all of its bits: the opening read of the next
+/// row runs past them.
+pub const BROKEN: [u8; 16] = [0x80, 0, 0, 0, 0, 0, 0, 0, 0, 0, 0, 0, 0, 0, 0, 1];
+
+/// The first packets of groups 3 and 4 among the tile's 13.
+pub const GROUP_3: usize = 9;
+pub const GROUP_4: usize = 12;
+
+/// A flat stream of 48 by 32 in which the first records of some packets have bytes, 96 at most.
+pub fn stream_with(records: &[(usize, &[u8])]) -> Vec<u8> {
+    let mut stream = flat_stream(48, 32);
+    for (packet, bytes) in records {
+        let packet = &mut stream[128 * (1 + packet)..][..128];
+        packet[..5].copy_from_slice(&[0, 1, 0, 0, 6]);
+        packet[17] = bytes.len() as u8;
+        packet[32..32 + bytes.len()].copy_from_slice(bytes);
+    }
+    stream
+}
+
+/// A frame file of two such tiles, one over the other.
+pub fn frame_with(records: &[(usize, &[u8])]) -> Vec<u8> {
+    repeated_stream((48, 32), &stream_with(records), 2)
 }
 
 /// The sample with 300 bits of its payloads flipped, which no check sees.

@@ -18,7 +18,7 @@ pub struct Outcome {
     pub notes: Vec<String>,
     /// Something was refused, unreadable or not written, or is not OK.
     pub bad: bool,
-    /// Records stopped early.
+    /// Some record is broken.
     pub damaged: bool,
     /// Lines of a list that are not OK.
     pub wrong: usize,

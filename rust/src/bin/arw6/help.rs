@@ -21,7 +21,7 @@ with. For every command:
   --frame WxH       FILE is a bare strip of a frame W wide and H high (with -r: .strip)
 
 A file that is refused or cannot be read is one line on standard error, and the others go
-on. Damage (records that stopped early) is one warning line there.
+on. Damage (broken records) is one warning line there; spent records are none.
 Status: 0 all good; 1 some file refused, unreadable or not written; 2 bad usage.
 ";
 
@@ -29,9 +29,10 @@ pub const TILES: &str = "\
 arw6 tiles FILE.. [-r] [-j N] [--json] [--strict] [--frame WxH]
 
 Decodes each tile and prints 'tiles N' and a line for each: offset and length in bytes of
-the strip, x, y, width, height in the frame, then 'stopped S', how many of its records
-stopped early (above 0 a sign of damage), or 'refused N'. The first tile that is refused is
-told on standard error. With more than one file, the file's name and a colon come first.
+the strip, x, y, width, height in the frame, then 'broken B spent S', or 'refused N'. B of
+its records met a bit width above 19, which is damage; S ran past their bits, which is
+ordinary on an evenly lit lining. The first tile that is refused is told on standard error.
+With more than one file, the file's name and a colon come first.
 ";
 
 pub const PLANES: &str = "\
@@ -42,8 +43,8 @@ Writes a folder DIR/NAME.planes for each file NAME. For tile K (from 0) it holds
   tileK.green.npy   the exact numbers, 32-bit little-endian, shape (rows, columns)
   tileK.red.npy     and tileK.blue.npy likewise
   tileK.png         a picture to look at, one pixel for each of the sensor
-and tiles.json: places, sizes, digests and stopped records. With -r the folders below a
-FILE that is a folder are kept below DIR.
+and tiles.json: places, sizes, digests, broken and spent records. With -r the folders below
+a FILE that is a folder are kept below DIR.
 
 One row of the green plane holds both greens of two sensor rows: at odd columns those of the
 upper row, at even columns those of the lower one. Red and blue are half of what red and
@@ -58,8 +59,8 @@ arw6 digest FILE.. [-r] [-j N] [--json] [--strict] [--frame WxH]
 arw6 digest --check LIST.. [-q, --quiet] [-j N] [--json] [--strict] [--frame WxH]
 
 Prints for each tile a line: the digest's definition and version, the SHA-256 of coded size
-and planes, tile, coded size, stopped records, and the file as it was given. docs/DIGEST.md
-defines all of it down to the byte.
+and planes, tile, coded size, stopped records (broken and spent together), and the file as
+it was given. docs/DIGEST.md defines all of it down to the byte.
 
 With --check each line of the lists is made anew from its file and held against the list:
 OK, FAILED, missing, unreadable or refused with its number. --quiet leaves out those that

@@ -16,6 +16,7 @@ pub struct Line {
     /// The coded size.
     pub width: usize,
     pub height: usize,
+    /// Broken and spent records together.
     pub stopped: usize,
     /// The path as it was given.
     pub path: PathBuf,

@@ -7,7 +7,7 @@ use crate::input::Frame;
 use crate::json::{list, number, object, path as path_fields, text};
 use crate::line::{hex, DEFINITION};
 use crate::names::shown;
-use crate::results::{decoded_fields, frame_fields, tile_fields, Damage};
+use crate::results::{decoded_fields, frame_fields, records, tile_fields, Damage};
 use crate::{npy, picture};
 use arw6::{Buffers, Decoded, TilePlanes, TileStream};
 use std::io::Write;
@@ -89,7 +89,7 @@ impl Said {
         let mut fields = [tile_fields(k, tile), decoded_fields(&planes.decoded)].concat();
         fields.push(("definition", text(DEFINITION)));
         fields.push(("digest", text(&hex(&planes.digest()))));
-        let Decoded { width, height, rows, stopped, .. } = planes.decoded;
+        let Decoded { width, height, rows, .. } = planes.decoded;
         let mut line = format!("  tile {k} at {},{}: {width}x{height}, rows {rows}", tile.x, tile.y);
         for (colour, numbers, _) in colours(planes) {
             let (least, greatest) = range(numbers);
@@ -97,7 +97,7 @@ impl Said {
             let ends = [("least", number(least)), ("greatest", number(greatest))];
             fields.push((colour, object(&ends)));
         }
-        self.lines += &format!("{line}, stopped {stopped}\n");
+        self.lines += &format!("{line}, {}\n", records(&planes.decoded));
         self.objects.push(object(&fields));
     }
 }

@@ -11,20 +11,20 @@ use std::path::Path;
 /// Names and values of a JSON object.
 pub type Fields = Vec<(&'static str, String)>;
 
-/// Records that stopped early, tile by tile.
+/// Broken records, tile by tile. Spent ones are ordinary.
 #[derive(Default)]
 pub struct Damage(Vec<(usize, usize)>);
 
 impl Damage {
     pub fn add(&mut self, tile: usize, decoded: &Decoded) {
-        if decoded.stopped > 0 {
-            self.0.push((tile, decoded.stopped));
+        if decoded.broken > 0 {
+            self.0.push((tile, decoded.broken));
         }
     }
 
     fn words(&self) -> String {
-        let tiles: Vec<String> = self.0.iter().map(|(k, stopped)| format!("tile {k}: {stopped}")).collect();
-        format!("records stopped early ({}); the picture may be damaged", tiles.join(", "))
+        let tiles: Vec<String> = self.0.iter().map(|(k, broken)| format!("tile {k}: {broken}")).collect();
+        format!("broken records ({}); the picture is damaged there", tiles.join(", "))
     }
 }
 
@@ -76,7 +76,17 @@ pub fn tile_fields(k: usize, tile: &TileStream) -> Fields {
 }
 
 pub fn decoded_fields(decoded: &Decoded) -> Fields {
-    vec![("rows", number(decoded.rows)), ("stopped", number(decoded.stopped))]
+    vec![
+        ("rows", number(decoded.rows)),
+        ("stopped", number(decoded.stopped)),
+        ("broken", number(decoded.broken)),
+        ("spent", number(decoded.spent)),
+    ]
+}
+
+/// The counts of records as a line has them.
+pub fn records(decoded: &Decoded) -> String {
+    format!("broken {} spent {}", decoded.broken, decoded.spent)
 }
 
 pub fn failure_fields(failure: &Failure) -> Fields {

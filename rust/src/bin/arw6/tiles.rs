@@ -4,7 +4,7 @@ use crate::batch::Outcome;
 use crate::failure::{Failure, Kind};
 use crate::input::Frame;
 use crate::json::{list, object};
-use crate::results::{decoded_fields, failure_fields, frame_fields, tile_fields, Damage, Fields};
+use crate::results::{decoded_fields, failure_fields, frame_fields, records, tile_fields, Damage, Fields};
 use arw6::{Buffers, Decoded, TileStream};
 use std::path::Path;
 
@@ -37,7 +37,7 @@ fn as_lines(tiles: &Tiles) -> String {
     for (tile, decoded) in tiles {
         let TileStream { offset, length, x, y, width, height, .. } = tile;
         let end = match decoded {
-            Ok(decoded) => format!("stopped {}", decoded.stopped),
+            Ok(decoded) => records(decoded),
             Err(Failure { kind: Kind::Refused(number), .. }) => format!("refused {number}"),
             Err(_) => "not decoded".to_string(),
         };
