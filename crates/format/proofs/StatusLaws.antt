@@ -17,7 +17,7 @@ use Rattle.format.specs.Refusals.{_▷_, each}
 use Rattle.format.specs.Reader.{Reader, Taken, startOf, readOf, unaryOf, findOf, updateSecond, updateFirst, updateOf, runFound, runOf, bitLength}
 use Rattle.format.specs.Coefficients.{Signed, Four, GroupAnswer, RunAnswer, Part, Stretch, stopped, signOf, fourOf, signsOf, widthNext, groupOf, widthAfter, zerosOf, rowStep, rowFrom, rowOf, rowsOf, codedRecord, recordOf, packetStopped, groupStopped, planeSum, tileSum, stoppedOf}
 use Rattle.format.specs.Counts.{firstStatus, recordStatus, goesBy, packetCount, groupCount, brokenOf, spentOf}
-use Rattle.format.proofs.TurnLaws.{both-none}
+use Rattle.format.proofs.TurnLaws.{both-none, sum-both}
 
 -- ---- a status never goes back: it stays or rises, to 2 at most
 record Rises (r q : Reader) : Type 0 where
@@ -218,11 +218,6 @@ coded-or-not : (none : Bool) (a b : List ℤ) (first end : ℕ) → cond (eqb en
     ≡ goesBy 1 (cond none 0 first) + goesBy 2 (cond none 0 first)
 coded-or-not true a b first end h = refl
 coded-or-not false a b first end h = h
-
-sum-both : (f g h : ℕ → ℕ) → ((i : ℕ) → f i ≡ g i + h i) → (n : ℕ) → sum f n ≡ sum g n + sum h n
-unfolding sum
-sum-both f g h e zero = refl
-sum-both f g h e (suc n) = omega (arith, sum-both f g h e n, e n)
 
 module _ (p : List ℕ) (m cols : ℕ) where
   record-both : (i : ℕ) → recordOf p m cols i .stopped ≡ goesBy 1 (recordStatus p m cols i) + goesBy 2 (recordStatus p m cols i)

@@ -1,7 +1,7 @@
 -- From a stream that no check refused to what decoding one of its packets asks and gives. Assumes nothing.
 use mathlib.Core.Path.{_≡_, refl, sym, ap, _∙_}
 use mathlib.Core.List.{List}
-use Prim.Native.Nat.{ℕ, zero, suc, _+_, _*_, _%_, _^_, _≤_, _<_}
+use Prim.Native.Nat.{ℕ, _+_, _*_, _%_, _^_, _≤_, _<_}
 use native.Mathlib.Nat.{zero-add}
 use native.Mathlib.Numerals.{add-one}
 use native.Mathlib.Omega.{arith}
@@ -13,7 +13,9 @@ use Rattle.format.specs.Coefficients.{recordValues, coefs, planeSum, tileSum}
 use Rattle.format.specs.Counts.{groupCount, brokenOf, spentOf}
 use Rattle.format.specs.Packets.{sum, packetStart, packetLength, packetOf, kind, blocks, payloadAt}
 use Rattle.format.specs.Sizes.{Colour, index, l1, l2, l3, Group, base, detail, final, number, multiplier, components, columns}
+use Rattle.format.specs.Strip.{width}
 use Rattle.format.specs.Accepted.{Good, PacketOk}
+use Rattle.format.proofs.TurnLaws.{sum-most}
 use Rattle.passes.specs.declared.Plan.{Plan}
 use Rattle.passes.specs.Plan.{unitOf, finalUnits, Fits}
 use Rattle.records.specs.declared.Counts.{Counts}
@@ -23,8 +25,7 @@ use Rattle.records.specs.declared.Walked.{Walked}
 use Rattle.records.specs.Counted.{none, both, Below, packetCounts}
 use Rattle.records.specs.Finished.{finishedBy}
 use Rattle.records.specs.Record.{walkedBy, valuesBy}
-use Rattle.records.proofs.Packet.{none-below, values-all, packet-counted}
-use Rattle.records.proofs.CountLaws.{count-lt}
+use Rattle.records.proofs.Packet.{count-lt, none-below, values-all, packet-counted}
 use Rattle.levels.specs.Block.{stood, recordLines, groupAt}
 use Rattle.levels.proofs.Blocks.{group-room}
 use Rattle.tile.specs.Packets.{packetGroup, packetIndex, groupIn, colourIn, Measured, heldOf, finishOf, groupCounts, tileCounts, packetLaid}
@@ -140,17 +141,15 @@ unfolding brokenOf spentOf
 counts-all s = λ j. record { broken = packets-sum (groupCount 1 s) j; spent = packets-sum (groupCount 2 s) j }
 
 -- ---- they are small
-group-lt : (k : ℕ) (s : List ℕ) (g : Group) (i : Colour) → groupCount k s g i < 2 ^ 16
+group-most : (k : ℕ) (s : List ℕ) (g : Group) (i : Colour) → groupCount k s g i ≤ 65535
 unfolding groupCount
-group-lt k s g i = count-lt k _ _ _
+group-most k s g i = omega (arith, count-lt k (packetOf s (number g) (index i)) (multiplier g) (columns (width s) g))
 
-going-most : (k : ℕ) (s : List ℕ) (p : ℕ) → goingBy k s p ≤ 65536 * p
-unfolding sum
-going-most k s zero = omega arith
-going-most k s (suc p) = omega (arith, going-most k s p, group-lt k s (groupIn p) (colourIn p))
+going-most : (k : ℕ) (s : List ℕ) (p : ℕ) → goingBy k s p ≤ p * 65535
+going-most k s p = sum-most (λ q. groupCount k s (groupIn q) (colourIn q)) 65535 (λ q. group-most k s (groupIn q) (colourIn q)) p
 
 pub group-below : (s : List ℕ) (g : Group) (i : Colour) (c : Counts) → c ≡ groupCounts s g i → Below (2 ^ 60) c
-group-below s g i c e = rw e (record { broken = omega (arith, group-lt 1 s g i); spent = omega (arith, group-lt 2 s g i) })
+group-below s g i c e = rw e (record { broken = omega (arith, group-most 1 s g i); spent = omega (arith, group-most 2 s g i) })
 
 pub counts-below : (s : List ℕ) (p : ℕ) (c : Counts) → p ≤ 13 → c ≡ countsBy s p → Below (2 ^ 60) c
 counts-below s p c h e = rw e (record { broken = omega (arith, going-most 1 s p); spent = omega (arith, going-most 2 s p) })
