@@ -1,12 +1,15 @@
 -- How the status of a record's reader moves, and that stopped records are the broken and the spent ones. Assumes nothing.
 use mathlib.Core.Path.{_≡_, refl, sym, ap, _∙_}
-use mathlib.Core.List.{List}
+use mathlib.Core.List.{List, _++_}
 use mathlib.Core.Bool.{Bool, true, false, cond}
 use Prim.Native.Nat.{ℕ, zero, suc, _+_, _-_, _*_, _/_, _^_, _≤_, min}
+use native.Mathlib.Nat.{zero-mul, suc-mul, add-comm}
 use native.Mathlib.Numerals.{add-one}
 use native.Mathlib.Omega.{arith}
 use lib.Dec.{leb, ltb, eqb}
 use lib.IntN.{ℤ, pos}
+use lib.ListN.{take, length-replicate, replicate-append-replicate}
+use lib.Seq.{take-at}
 use lib.Signed.{ltZ}
 use borrow.Author.Tests.{eq-eqb, ne-eqb, eqb-true, eqb-false}
 use Rattle.wrap32.proofs.Laws.{of-cond}
@@ -15,7 +18,7 @@ use Rattle.format.specs.Sizes.{Colour, green, red, blue, l1, l2, l3, Gro
 use Rattle.format.specs.Packets.{sum, kind, blocks, recordLength, selector, payloadAt}
 use Rattle.format.specs.Refusals.{_▷_, each}
 use Rattle.format.specs.Reader.{Reader, Taken, startOf, readOf, unaryOf, findOf, updateSecond, updateFirst, updateOf, runFound, runOf, bitLength}
-use Rattle.format.specs.Coefficients.{Signed, Four, GroupAnswer, RunAnswer, Part, Stretch, stopped, signOf, fourOf, signsOf, widthNext, groupOf, widthAfter, zerosOf, rowStep, rowFrom, rowOf, rowsOf, codedRecord, recordOf, packetStopped, groupStopped, planeSum, tileSum, stoppedOf}
+use Rattle.format.specs.Coefficients.{Signed, Four, GroupAnswer, RunAnswer, Part, Stretch, zeros, stopped, signOf, fourOf, signsOf, widthNext, groupOf, widthAfter, zerosOf, rowStep, rowFrom, rowOf, rowsOf, codedRecord, recordOf, packetStopped, groupStopped, planeSum, tileSum, stoppedOf}
 use Rattle.format.specs.Counts.{firstStatus, recordStatus, goesBy, packetCount, groupCount, brokenOf, spentOf}
 use Rattle.format.proofs.TurnLaws.{both-none, sum-both}
 
@@ -38,6 +41,13 @@ _then_ f g =
           let b = g .up (a .1) in
           (omega (arith, a .0, b .0), b .1);
     }
+
+take-zeros : (n k : ℕ) → n ≤ k → take n (zeros k) ≡ zeros n
+take-zeros n k h =
+    let split : k ≡ n + (k - n) = omega arith in
+    ap (λ (x : ℕ). take n (zeros x)) split
+    ∙ ap (take n) (sym (replicate-append-replicate n (k - n) (pos 0)))
+    ∙ take-at (zeros n) (zeros (k - n)) n (length-replicate n (pos 0))
 
 module _ (s : List ℕ) where
   read-rises : (r : Reader) (n : ℕ) → Rises r (readOf s r n .reader)
@@ -158,8 +168,33 @@ module _ (s : List ℕ) where
   row-keeps sel (suc turns) g t set =
       of-cond (λ (p : Part). p .reader .status ≡ t .reader .status) (eqb g 0) _ _ (λ _. refl) (λ _. rw (ne-eqb _ _ set) refl)
 
+  from-zeros : (sel g : ℕ) (t : Taken) → (t .reader .status ≡ 0 → ⊥) → rowFrom s sel g g t .values ≡ zeros (4 * g)
+  unfolding rowFrom rowStep
+  from-zeros sel zero t set = refl
+  from-zeros sel (suc g) t set = rw (ne-eqb (suc g) 0 (λ e. omega (arith, e)), ne-eqb _ _ set) refl
+
+  -- a row whose reader has a status that is set is 0
+  row-zeros : (sel n : ℕ) (r : Reader) → r .status ≤ 2 → (r .status ≡ 0 → ⊥) → rowOf s sel n r .values ≡ zeros n
+  unfolding rowOf
+  row-zeros sel n r low set =
+      let up = update-rises r 0 .up low in
+      ap (take n) (from-zeros sel ((n + 3) / 4) (updateOf s r 0) (λ e. set (omega (arith, up .0, e))))
+      ∙ take-zeros n (4 * ((n + 3) / 4)) (omega arith)
+
 -- ---- rows one after the other
 module _ (s : List ℕ) (sel : ℕ → ℕ) (m cols : ℕ) where
+  -- those that come after a status was set are 0
+  pub rows-zeros : (n k : ℕ) (r : Reader) → r .status ≤ 2 → (r .status ≡ 0 → ⊥) → rowsOf s sel m cols n k r .values ≡ zeros (n * cols)
+  unfolding rowsOf
+  rows-zeros zero k r low set = ap zeros (sym (zero-mul cols))
+  rows-zeros (suc n) k r low set =
+      let row = rowOf s (sel (k / m)) cols r .reader in
+      let up = row-rises s (sel (k / m)) cols r .up low in
+      let rest = rows-zeros n (suc k) row (up .1) (λ e. set (omega (arith, up .0, e))) in
+      (λ j. row-zeros s (sel (k / m)) cols r low set j ++ rest j)
+      ∙ replicate-append-replicate cols (n * cols) (pos 0)
+      ∙ ap zeros (add-comm cols (n * cols) ∙ sym (suc-mul n cols))
+
   -- one row more
   pub rows-on : (n k : ℕ) (r : Reader)
       → rowsOf s sel m cols (suc n) k r .reader ≡ rowOf s (sel ((k + n) / m)) cols (rowsOf s sel m cols n k r .reader) .reader
@@ -171,13 +206,13 @@ module _ (s : List ℕ) (sel : ℕ → ℕ) (m cols : ℕ) where
 
   module _ (r : Reader) (fresh : r .status ≡ 0) where
     -- the reader after n rows
-    abbrev after : ℕ → Reader
+    abbrev pub after : ℕ → Reader
     after n = rowsOf s sel m cols n 0 r .reader
 
     rows-rise : (n : ℕ) → Rises (after n) (after (suc n))
     rows-rise n = rw (rows-on n 0 r) (row-rises s (sel ((0 + n) / m)) cols (after n))
 
-    after-low : (n : ℕ) → after n .status ≤ 2
+    pub after-low : (n : ℕ) → after n .status ≤ 2
     unfolding rowsOf
     after-low zero = omega arith
     after-low (suc n) = rows-rise n .up (after-low n) .1
