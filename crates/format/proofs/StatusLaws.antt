@@ -11,14 +11,14 @@ use lib.IntN.{ℤ, pos}
 use lib.ListN.{take, length-replicate, replicate-append-replicate}
 use lib.Seq.{take-at}
 use lib.Signed.{ltZ}
-use borrow.Author.Tests.{eq-eqb, ne-eqb, eqb-true, eqb-false}
+use borrow.Author.Tests.{eq-eqb, ne-eqb, eqb-true}
 use Rattle.wrap32.proofs.Laws.{of-cond}
 use Rattle.format.specs.Bits.{zerosAt}
 use Rattle.format.specs.Sizes.{Colour, green, red, blue, l1, l2, l3, Group, base, detail, final}
-use Rattle.format.specs.Packets.{sum, kind, blocks, recordLength, selector, payloadAt}
+use Rattle.format.specs.Packets.{kind, blocks, recordLength, selector, payloadAt}
 use Rattle.format.specs.Refusals.{_▷_, each}
 use Rattle.format.specs.Reader.{Reader, Taken, startOf, readOf, unaryOf, findOf, updateSecond, updateFirst, updateOf, runFound, runOf, bitLength}
-use Rattle.format.specs.Coefficients.{Signed, Four, GroupAnswer, RunAnswer, Part, Stretch, zeros, stopped, signOf, fourOf, signsOf, widthNext, groupOf, widthAfter, zerosOf, rowStep, rowFrom, rowOf, rowsOf, codedRecord, recordOf, packetStopped, groupStopped, planeSum, tileSum, stoppedOf}
+use Rattle.format.specs.Coefficients.{Signed, Four, Part, Stretch, zeros, stopped, signOf, fourOf, signsOf, widthNext, groupOf, widthAfter, zerosOf, rowStep, rowFrom, rowOf, rowsOf, codedRecord, recordOf, packetStopped, groupStopped, planeSum, tileSum, stoppedOf}
 use Rattle.format.specs.Counts.{firstStatus, recordStatus, goesBy, packetCount, groupCount, brokenOf, spentOf}
 use Rattle.format.proofs.TurnLaws.{both-none, sum-both}
 
