@@ -21,7 +21,7 @@ recordStatus p m cols i =
     cond (eqb (recordLength p i) 0) 0
     (firstStatus p (selector p i) m cols (kind p * m) (startOf (payloadAt p i) (recordLength p i)))
 
--- 1 where a record that goes by `status` goes by k, else 0
+-- what a record that goes by `status` counts among those that go by k
 abbrev pub goesBy : ℕ → ℕ → ℕ
 goesBy k status = cond (eqb status k) 1 0
 

@@ -4,6 +4,7 @@ use Prim.Native.Nat.{ℕ, _+_, _<_}
 use Rattle.format.specs.Counts.{goesBy, packetCount}
 use Rattle.records.specs.declared.Counts.{Counts}
 
+-- no record yet
 abbrev pub none : Counts
 none = record { broken = 0; spent = 0 }
 
