@@ -114,13 +114,14 @@ fn files_that_may_not_grow() {
     assert_eq!(names(&out), ["small.frame", "small.frame.planes"]);
 }
 
-/// A disk that is full, where one can be made: the same.
+/// A disk that is full, where one can be made: the same. One file after the other, since a frame that
+/// fills the disk leaves no room for another that is written at the same time.
 #[test]
 fn a_full_disk() {
     let out = folder("full-disk");
     let small = file(&out, "small.frame", &repeated_tile(16, 16, 1));
     let script =
-        "mount -t tmpfs -o size=300k none \"$1\" || exit 99; \"$0\" planes \"$2\" \"$3\" --out \"$1\"; \
+        "mount -t tmpfs -o size=300k none \"$1\" || exit 99; \"$0\" planes -j1 \"$2\" \"$3\" --out \"$1\"; \
                   echo status $?; ls -A \"$1\"";
     let disk = out.join("disk");
     fs::create_dir(&disk).unwrap();
