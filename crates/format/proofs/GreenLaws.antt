@@ -22,7 +22,7 @@ module _ (A : Arithmetic ℤ) (h c : ℕ) where
       let u : y - 1 < h = omega arith in
       λ i. quarter A (s (y - 1) x u q i) (s y x p q i) (s (y - 1) (min (x + 1) (c - 1)) u z i) (s y (min (x + 1) (c - 1)) p z i)
 
-  around-same : (o o′ : Plane) → SameOn h c o o′ → SameOn h c (around A h o) (around A h o′)
+  pub around-same : (o o′ : Plane) → SameOn h c o o′ → SameOn h c (around A h o) (around A h o′)
   unfolding around
   around-same o o′ s y x p q =
       let z : min (y + 1) (h - 1) < h = omega arith in

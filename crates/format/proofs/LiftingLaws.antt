@@ -9,6 +9,7 @@ use borrow.Author.Tests.{eqb-true, eqb-false}
 use lib.IntN.{ℤ, pos}
 use mir.Syntax.{w32}
 use mir.Val.{SFits}
+use Rattle.wrap32.specs.Cut.{addW, subW}
 use Rattle.wrap32.specs.Arithmetic.{Arithmetic, wrapping}
 use Rattle.wrap32.proofs.Laws.{of-cond, addW-fits, subW-fits, sub-add, add-sub}
 use Rattle.format.specs.Lifting.{Signal, weave, Lead, lowLeads, highLeads, join, lowPlaces, highPlaces, taken, added, lowOut, highOut, lift, highsOf, lowsOf, Shape, Same}
@@ -76,7 +77,7 @@ module _ (A : Arithmetic ℤ) (n m : ℕ) where
       let b = p (min (y + 1) (m - 1)) (omega arith) in
       λ i. A .shift (A .plus (A .plus (a i) (b i)) (A .of (pos 2))) 4
 
-  added-same : (d : Lead) (f g : Signal) → Shape d n m → Same n f g → Same m (added A d n f) (added A d n g)
+  pub added-same : (d : Lead) (f g : Signal) → Shape d n m → Same n f g → Same m (added A d n f) (added A d n g)
   unfolding added
   added-same lowLeads f g e p y h =
       let a = p y (omega arith) in
@@ -105,6 +106,16 @@ module _ (A : Arithmetic ℤ) (n m : ℕ) where
       by lowLeads {a} {b} {a′} {b′} e p q k h = weave-same n m a b a′ b′ (omega arith) (omega arith) p q k h
       by highLeads {a} {b} {a′} {b′} e p q k h =
           weave-same m n b a b′ a′ (⊎-elim (λ q. omega arith) (λ q. omega arith) (e .1)) (⊎-elim (λ q. omega arith) (λ q. omega arith) (e .1)) q p k (omega arith)
+
+-- and so do the highs and the lows undone
+module _ (n m : ℕ) (d : Lead) (s t : Signal) (e : Shape d n m) (p : Same (n + m) s t) where
+  pub highs-same : Same m (highsOf d n s) (highsOf d n t)
+  unfolding highsOf
+  highs-same y h = λ i. subW (high-places n m d s t e p y h i) (added-same wrapping n m d _ _ e (low-places n m d s t e p) y h i)
+
+  pub lows-same : Same n (lowsOf d n m s) (lowsOf d n m t)
+  unfolding lowsOf
+  lows-same y h = λ i. addW (low-places n m d s t e p y h i) (taken-same wrapping n m d _ _ e highs-same y h i)
 
 pub lift-fits : (d : Lead) (n m : ℕ) (lo hi : Signal) (k : ℕ) → SFits w32 (lift wrapping d n m lo hi k)
 unfolding lift lowOut highOut

@@ -1,23 +1,24 @@
 -- A row put at its place in a packet, as the code does it: `seek` is what is left of rows that were put there one after the other. Assumes nothing.
 use mathlib.Core.Path.{_≡_, refl, sym, ap, _∙_}
-use mathlib.Core.List.{List, [], _++_, append-nil, append-assoc}
+use mathlib.Core.List.{List, _∷_, _++_}
 use mathlib.Core.Bool.{Bool, true, false, cond, _&&_}
 use mathlib.Core.Logic.{_⊎_, inl, inr}
-use Prim.Native.Nat.{ℕ, zero, suc, _+_, _-_, _*_, _/_, _%_, _≤_, _<_}
-use native.Mathlib.Nat.{eq-or-lt-of-le, le-of-suc-le-suc, mul-le-mul-right}
+use Prim.Native.Nat.{ℕ, zero, suc, _+_, _*_, _≤_, _<_}
+use native.Mathlib.Nat.{eq-or-lt-of-le, le-of-suc-le-suc, mul-le-mul-right, zero-mul, suc-mul}
 use native.Mathlib.Omega.{arith}
 use lib.IntN.{ℤ, pos}
-use lib.ListN.{length, take, drop, length-append, length-drop, take-append-drop}
-use lib.Seq.{take-append-le, drop-append-le, take-at, drop-at, drop-length, length-take-le}
+use lib.ListN.{length}
 use lib.Dec.{eqb}
 use borrow.Author.Tests.{eq-eqb, ne-eqb, eqb-true, eqb-false}
-use Rattle.wrap32.proofs.Laws.{of-cond}
-use Rattle.lists.specs.Lists.{tab, rows, putAt}
-use Rattle.lists.proofs.Tab.{length-tab, tab-same}
+use Rattle.lists.specs.Lists.{tab, rows, part, putAt, laid}
+use Rattle.lists.proofs.Tab.{length-tab, tab-same, tab-add}
 use Rattle.lists.proofs.Rows.{length-rows}
+use Rattle.lists.proofs.Part.{put-front, put-end, part-put}
+use Rattle.lists.proofs.Laid.{length-laid}
 use Rattle.format.specs.Lifting.{Plane}
-use Rattle.format.specs.Sizes.{l1, l2, l3, Group, base, detail, final, multiplier, components}
+use Rattle.format.specs.Sizes.{l1, l2, l3, Group, base, detail, final, components}
 use Rattle.format.specs.Table.{Source, fromComponent, fromRow}
+use Rattle.format.specs.Coefficients.{zeros}
 use Rattle.format.specs.Synthesis.{flat}
 use Rattle.format.specs.Recovery.{back, seek}
 use Rattle.format.specs.Numbers.{componentAt, rowAt, rowOf, inTurn}
@@ -26,16 +27,6 @@ use Rattle.format.proofs.PlaceLaws.{flat-same}
 -- ---- a row of a list of rows, replaced
 abbrev pub replaced : ℕ → (ℕ → ℤ) → Plane → Plane
 replaced k g p y x = cond (eqb k y) (g x) (p y x)
-
-put-front : (a b zs : List ℤ) (k : ℕ) → k + length zs ≤ length a → putAt (a ++ b) k zs ≡ putAt a k zs ++ b
-put-front a b zs k h =
-    let e : k ≤ length a = omega arith in
-    let f : length zs ≤ length (drop k a) = rw length-drop (omega arith) in
-    rw (take-append-le k a b e, drop-append-le k a b e, drop-append-le (length zs) (drop k a) b f)
-    (ap (λ (l : List ℤ). take k a ++ l) (sym (append-assoc zs (drop (length zs) (drop k a)) b)) ∙ sym (append-assoc (take k a) (zs ++ drop (length zs) (drop k a)) b))
-
-put-end : (a b zs : List ℤ) (k : ℕ) → length a ≡ k → length zs ≡ length b → putAt (a ++ b) k zs ≡ a ++ zs
-put-end a b zs k e f = rw (take-at a b k e, drop-at a b k e, f, drop-length b, append-nil)
 
 pub flat-put : (w : ℕ) (p : Plane) (g : ℕ → ℤ) (h k : ℕ) → k < h → putAt (flat h w p) (k * w) (tab w g) ≡ flat h w (replaced k g p)
 unfolding rows
@@ -95,3 +86,50 @@ unfolding seek
 seek-put g w h odd src p n rest few low =
     flat-put w _ (λ x. back odd (src n) (p n x)) h (rowOf g (fromComponent (src n)) (fromRow (src n))) low
     ∙ flat-same h w _ _ (λ q x a b. ap (λ (t : Bool). cond t (back odd (src n) (p n x)) (seek odd src p (componentAt g q) (rowAt g q) x n (rest (componentAt g q) (rowAt g q) x))) (same-place g (fromComponent (src n)) (fromRow (src n)) q few))
+
+-- rows of a band put at their places one after the other, into a packet of h rows of w that stands from `at` on
+module _ (g : Group) (w h at : ℕ) (odd : Bool) (src : ℕ → Source) (p : Plane) (rest : ℕ → Plane) (l : List ℤ) (room : at + h * w ≤ length l) where
+  abbrev pub placeOf : ℕ → ℕ
+  placeOf y = at + rowOf g (fromComponent (src y)) (fromRow (src y)) * w
+
+  abbrev pub lineBack : ℕ → List ℤ
+  lineBack y = tab w (λ x. back odd (src y) (p y x))
+
+  place-room : (y : ℕ) → rowOf g (fromComponent (src y)) (fromRow (src y)) < h → placeOf y + w ≤ at + h * w
+  place-room y low = let m = mul-le-mul-right w low in omega (arith, m)
+
+  pub laid-seek : (n : ℕ) → ((y : ℕ) → y < n → fromComponent (src y) < components g) → ((y : ℕ) → y < n → rowOf g (fromComponent (src y)) (fromRow (src y)) < h)
+      → part l at (h * w) ≡ flat h w (inTurn g rest)
+      → part (laid placeOf lineBack l n) at (h * w) ≡ flat h w (inTurn g (λ c r x. seek odd src p c r x n (rest c r x)))
+  unfolding laid seek
+  laid-seek zero few low e = e
+  laid-seek (suc n) few low e =
+      let q = rowOf g (fromComponent (src n)) (fromRow (src n)) in
+      let long : length (laid placeOf lineBack l n) ≡ length l = length-laid placeOf lineBack l w n (λ y. length-tab w _) (λ y b. omega (arith, place-room y (low y (omega (arith, b))), room)) n (omega arith) in
+      let in-it = place-room n (low n (omega arith)) in
+      part-put (laid placeOf lineBack l n) at (h * w) (q * w) (lineBack n) (omega (arith, long, room)) (omega (arith, length-tab w (λ x. back odd (src n) (p n x)), in-it))
+      ∙ ap (λ (t : List ℤ). putAt t (q * w) (lineBack n)) (laid-seek n (λ y b. few y (omega (arith, b))) (λ y b. low y (omega (arith, b))) e)
+      ∙ seek-put g w h odd src p n rest (few n (omega arith)) (low n (omega arith))
+
+-- rows of a packet of one component stand one behind the other
+pub row-alone : (g : Group) (r : ℕ) → components g ≡ 1 → rowOf g 0 r ≡ r
+row-alone base r e = omega arith
+row-alone (detail l) r e = absurd (omega (arith, e))
+row-alone final r e = omega arith
+
+-- zeros are rows of zeros
+tab-zeros : (n : ℕ) → tab n (λ _. pos 0) ≡ zeros n
+unfolding tab
+tab-zeros zero = refl
+tab-zeros (suc n) = ap (λ (l : List ℤ). pos 0 ∷ l) (tab-zeros n)
+
+flat-tab : (w h : ℕ) → tab (h * w) (λ _. pos 0) ≡ flat h w (λ _ _. pos 0)
+unfolding rows tab
+flat-tab w zero = ap (λ (n : ℕ). tab n (λ _. pos 0)) (zero-mul w)
+flat-tab w (suc h) =
+    ap (λ (n : ℕ). tab n (λ _. pos 0)) (suc-mul h w)
+    ∙ tab-add (h * w) w (λ _. pos 0)
+    ∙ ap (λ (l : List ℤ). l ++ tab w (λ _. pos 0)) (flat-tab w h)
+
+pub flat-zeros : (w h : ℕ) → zeros (h * w) ≡ flat h w (λ _ _. pos 0)
+flat-zeros w h = sym (tab-zeros (h * w)) ∙ flat-tab w h

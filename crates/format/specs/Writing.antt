@@ -236,26 +236,28 @@ bandRefusal odd (E c r) z = on (not (eqZ (edgeDetail wrapping odd (back odd (E c
 abbrev pub places : ℕ → ℕ → (ℕ → ℕ → ℕ) → ℕ
 places h w f = each (λ y. each (f y) w) h
 
--- all of the planes p, in the order of recovery (each check has the same number), by whether H is guarded, n and w
-module _ (g : Bool) (n w : ℕ) (p : Colour → List ℤ) where
-  abbrev pub stepAt : Colour → Plane
-  stepAt i y x =
-      subW (unstep g n w l1 (given g n w l1 (outOf g n w p i)) y x) (before (unstep g n w l1 (given g n w l1 (outOf g n w p i)) y) x)
+-- all of a tile, by whether H is guarded, n and w, in the order of recovery (each check has the same number)
+module _ (g : Bool) (n w : ℕ) where
+  -- of an index, from what came out of its three levels
+  module _ (i : Colour) (out : Plane) where
+    abbrev pub stepAt : Plane
+    stepAt y x = subW (unstep g n w l1 (given g n w l1 out) y x) (before (unstep g n w l1 (given g n w l1 out) y) x)
 
-  unfoldable pub levelRefusal : Level → Colour → Band → ℕ
-  levelRefusal l i b =
-      places (bandRows (height g n l) (highs g l (height g n l)) b) (columns w (detail l))
-      (λ y x. bandRefusal (mode l i) (source g l (height g n l) b y) (unband g n w l (given g n w l (outOf g n w p i)) b y x))
+    abbrev pub levelRefusal : Level → Band → ℕ
+    levelRefusal l b =
+        places (bandRows (height g n l) (highs g l (height g n l)) b) (columns w (detail l))
+        (λ y x. bandRefusal (mode l i) (source g l (height g n l) b y) (unband g n w l (given g n w l out) b y x))
 
-  abbrev pub bandsRefusal : Level → Colour → ℕ
-  bandsRefusal l i = levelRefusal l i hh ▷ levelRefusal l i lh ▷ levelRefusal l i hl
+    unfoldable pub bandsRefusal : Level → ℕ
+    bandsRefusal l = levelRefusal l hh ▷ levelRefusal l lh ▷ levelRefusal l hl
 
-  unfoldable pub indexRefusal : Colour → ℕ
-  indexRefusal i = bandsRefusal l3 i ▷ bandsRefusal l2 i ▷ bandsRefusal l1 i ▷ places (height g n l1) (w / 16) (λ y x. tooFar (stepAt i y x))
+    unfoldable pub indexRefusal : ℕ
+    indexRefusal = bandsRefusal l3 ▷ bandsRefusal l2 ▷ bandsRefusal l1 ▷ places (height g n l1) (w / 16) (λ y x. tooFar (stepAt y x))
 
-  unfoldable pub numbersRefusal : ℕ
-  numbersRefusal =
-      indexRefusal green ▷ indexRefusal red ▷ indexRefusal blue
+  -- of the planes p
+  unfoldable pub numbersRefusal : (Colour → List ℤ) → ℕ
+  numbersRefusal p =
+      indexRefusal green (outOf g n w p green) ▷ indexRefusal red (outOf g n w p red) ▷ indexRefusal blue (outOf g n w p blue)
       ▷ places (planeRows g n) (w / 2) (λ y x. tooLarge (dOf (planeRows g n) (readPlane w (p green)) y x))
 
 -- ---- 26: a record above 65,535 bytes, a group above 268,435,440
