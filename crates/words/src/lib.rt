@@ -1,8 +1,9 @@
-// Words and bit fields of a byte slice, and the lesser and the difference of two numbers.
+// Words and bit fields of a byte slice; the lesser and the difference of two numbers, and the first that is not 0.
 ghost use mathlib.Core.Path.{_≡_};
 ghost use Prim.Native.Nat.{_+_, _-_, _/_, _^_, _<_, _≤_, min};
 ghost use lib.ListN.{length, getD};
 ghost use Rattle.format.specs.Bits.{bitsAt, little32};
+ghost use Rattle.format.specs.Refusals.{_▷_};
 ghost use Rattle.words.specs.Word.{wordAt};
 
 // The lesser of two numbers.
@@ -18,6 +19,13 @@ pub fn less(a: u64, b: u64) -> u64
     ensures { λ r. ⌜ r ≡ a - b ⌝ }
 {
     if b < a { a - b } else { 0 }
+}
+
+// The first of two numbers that is not 0: of two checks in turn, what refuses.
+pub fn first_of(a: u64, b: u64) -> u64
+    ensures { λ r. ⌜ r ≡ (a ▷ b) ⌝ }
+{
+    if a == 0 { b } else { a }
 }
 
 fn byte(s: &[u8], i: usize) -> u64
