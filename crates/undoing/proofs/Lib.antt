@@ -1,0 +1,6 @@
+pub mod UndoLaws
+pub mod RowLaws
+pub mod DownLaws
+pub mod StageLaws
+pub mod LevelLaws
+pub mod GreenLaws
