@@ -2,14 +2,17 @@
 ghost use mathlib.Core.Path.{_≡_};
 ghost use lib.ListN.{length};
 ghost use Rattle.format.specs.Strip.{tilesOf};
-ghost use Rattle.format.specs.Tile.{lengthsOf};
+ghost use Rattle.format.specs.Tile.{lengthsOf, slice};
 ghost use Rattle.strip.specs.Answers.{tileField};
 ghost use Rattle.packets.specs.Answers.{codeLengths};
 ghost use Rattle.tile.specs.Decode.{TileOutcome};
+ghost use Rattle.writer.specs.Write.{WriteOutcome};
 use packets::Lengths;
 use packets::lengths_of;
 use tile::Decoded;
 use tile::decode_stream;
+use writer::Written;
+use writer::write_stream;
 
 // How many tiles a strip has in a frame.
 #[no_mangle]
@@ -53,4 +56,20 @@ pub extern "C" fn arw6_decode_stream(
     ensures { λ r. ⌜ TileOutcome (now (stream .entry)) (now (green .entry)) (now (red .entry)) (now (blue .entry)) (now (work .entry)) r (now (green .exit)) (now (red .exit)) (now (blue .exit)) (now (work .exit)) ⌝ }
 {
     decode_stream(stream, green, red, blue, work)
+}
+
+// One tile's stream from planes of a coded size: a refusal, or the stream's length with the stream.
+#[no_mangle]
+pub extern "C" fn arw6_write_stream(
+    green: &[i32],
+    red: &[i32],
+    blue: &[i32],
+    width: usize,
+    height: usize,
+    work: &mut [i32],
+    stream: &mut [u8],
+) -> Written
+    ensures { λ r. ⌜ WriteOutcome width height (slice (now (green .entry)) (now (red .entry)) (now (blue .entry))) (now (work .entry)) (now (stream .entry)) r (now (work .exit)) (now (stream .exit)) ⌝ }
+{
+    write_stream(green, red, blue, width, height, work, stream)
 }

@@ -1,29 +1,34 @@
 -- Laws of the lengths that the code answers: what they say of a stream and of its refusal. Assumes nothing.
 use mathlib.Core.Path.{_≡_, refl, sym, ap, _∙_}
 use mathlib.Core.List.{List}
-use mathlib.Core.Bool.{true}
 use Prim.Native.Nat.{ℕ, _*_, _≤_}
 use lib.ListN.{length}
 use borrow.Author.Tests.{le-ltb}
 use Rattle.format.specs.Sizes.{green, red, planeRowsOf, planeColumns, workLength}
-use Rattle.format.specs.Strip.{width, codedHeight, validHeader}
+use Rattle.format.specs.Strip.{width, codedHeight}
 use Rattle.format.specs.Refusals.{_▷_, largeRefusal, shortRefusal, directoryRefusal, packetsRefusal, refusal}
 use Rattle.format.specs.Tile.{lengthsBy, lengthsOf}
 use Rattle.format.proofs.Enough.{at-most-3, measured, measured-long, refusal-after, refused-whatever-is-lent}
 use Rattle.packets.specs.Answers.{codeLengths, shortOf}
 use Rattle.packets.specs.declared.Lengths.{Lengths}
 
--- those of a valid header whose planes are not too large
-pub measured-lengths : (s : List ℕ) (w H rows full colour work : ℕ) → validHeader s ≡ true → w ≡ width s → H ≡ codedHeight s
+-- those of a size whose planes are not too large
+pub measured-lengths : (w H rows full colour work : ℕ)
     → rows ≡ planeRowsOf H → full ≡ planeRowsOf H * planeColumns w green → colour ≡ planeRowsOf H * planeColumns w red → work ≡ workLength w H
     → full ≤ 134217728
     → _≡_ {A = Lengths}
     (record { refusal = 0; width = w; height = H; rows = rows; green = full; red = colour; blue = colour; work = work })
-    (codeLengths (lengthsOf s))
-unfolding lengthsOf largeRefusal
-measured-lengths s w H rows full colour work valid wide high r f k n small =
-    let size : planeRowsOf (codedHeight s) * width s ≤ 134217728 = rw (← wide, ← high, ← f) small in
-    rw (r, f, k, n, wide, high, valid, le-ltb _ _ size) refl
+    (codeLengths (lengthsBy (largeRefusal w H) w H))
+unfolding largeRefusal
+measured-lengths w H rows full colour work r f k n small =
+    let size : planeRowsOf H * w ≤ 134217728 = rw (← f) small in
+    rw (r, f, k, n, le-ltb _ _ size) refl
+
+-- where no number refuses the size, a short slice is one that document 01's refusal 4 means
+pub short-by : (w H greenN redN blueN workN : ℕ) → largeRefusal w H ≡ 0
+    → shortOf (codeLengths (lengthsBy (largeRefusal w H) w H)) greenN redN blueN workN ≡ shortRefusal w H greenN redN blueN workN
+unfolding shortOf shortRefusal
+short-by w H greenN redN blueN workN none = rw none refl
 
 module _ (s : List ℕ) (need : Lengths) (is : need ≡ codeLengths (lengthsOf s)) where
   number : need .refusal ≡ lengthsOf s .refusal

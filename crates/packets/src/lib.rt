@@ -5,8 +5,8 @@ ghost use Prim.Native.Nat.{_+_, _^_, _<_, _≤_};
 ghost use lib.ListN.{length};
 ghost use lib.Dec.{eqb};
 ghost use Rattle.format.specs.Packets.{packetStart, packetLength, packetOf};
-ghost use Rattle.format.specs.Refusals.{isDetail, wrongCount, tileRefusal, directoryRefusal, entryCheck, planeRefusal, packetsRefusal, refusal};
-ghost use Rattle.format.specs.Tile.{lengthsOf};
+ghost use Rattle.format.specs.Refusals.{isDetail, wrongCount, tileRefusal, largeRefusal, directoryRefusal, entryCheck, planeRefusal, packetsRefusal, refusal};
+ghost use Rattle.format.specs.Tile.{lengthsBy, lengthsOf};
 ghost use Rattle.packets.specs.Answers.{groupOf, colourOf, codeLengths, shortOf, checkedOf};
 use fields::blocks;
 use fields::coded_height;
@@ -207,24 +207,22 @@ fn no_lengths(refusal: u64) -> Lengths
     }
 }
 
-// What to lend for a stream: the check of its header, that of its size, and the lengths that follow.
-pub fn lengths_of(stream: &[u8]) -> Lengths
-    ensures { λ r. ⌜ r ≡ codeLengths (lengthsOf (now (stream .entry))) ⌝ }
+// What to lend for a coded size: the check of the size, and the lengths that follow.
+pub fn lengths_by(w: usize, height: usize) -> Lengths
+    requires { ⌜ (w < 2 ^ 16) × (height < 2 ^ 17) ⌝ }
+    ensures { λ r. ⌜ r ≡ codeLengths (lengthsBy (largeRefusal w height) w height) ⌝ }
 {
-    let StreamHeader::Valid(h) = parse_stream_header(stream) else {
-        return no_lengths(2);
-    };
-    let green = green_size(h.width, h.height);
+    let green = green_size(w, height);
     if MAX_PLANE_SAMPLES < green {
         return no_lengths(3);
     }
-    let rows = plane_rows(h.height);
-    let colour = colour_size(h.width, h.height);
-    let work = work_length(h.width, h.height);
+    let rows = plane_rows(height);
+    let colour = colour_size(w, height);
+    let work = work_length(w, height);
     Lengths {
         refusal: 0,
-        width: h.width as u64,
-        height: h.height as u64,
+        width: w as u64,
+        height: height as u64,
         rows: rows as u64,
         green: green as u64,
         red: colour as u64,
@@ -233,8 +231,18 @@ pub fn lengths_of(stream: &[u8]) -> Lengths
     }
 }
 
+// The same for a stream, whose header is checked first.
+pub fn lengths_of(stream: &[u8]) -> Lengths
+    ensures { λ r. ⌜ r ≡ codeLengths (lengthsOf (now (stream .entry))) ⌝ }
+{
+    let StreamHeader::Valid(h) = parse_stream_header(stream) else {
+        return no_lengths(2);
+    };
+    lengths_by(h.width, h.height)
+}
+
 // The lengths of the lent slices, against those needed.
-fn check_lent(need: Lengths, green: usize, red: usize, blue: usize, work: usize) -> u32
+pub fn check_lent(need: Lengths, green: usize, red: usize, blue: usize, work: usize) -> u32
     ensures { λ r. ⌜ r ≡ shortOf need green red blue work ⌝ }
 {
     if (green as u64) < need.green {

@@ -12,7 +12,8 @@ use Rattle.format.specs.Coefficients.{coefs}
 use Rattle.format.specs.Synthesis.{planes}
 use Rattle.format.specs.Ordinary.{OrdinarySelectors, filteredPlanes}
 use Rattle.format.proofs.Ordinary.{planes-are-whole, none-leaves, planes-are-filtered, planes-are-small}
-use Rattle.tile.specs.Decode.{TileOutcome, slice, planesLeft}
+use Rattle.format.specs.Tile.{slice}
+use Rattle.tile.specs.Decode.{TileOutcome, planesLeft}
 use Rattle.tile.specs.declared.Decoded.{Decoded}
 use Rattle.tile.proofs.Lossless.{admitted, left-is, size-is}
 
