@@ -1,9 +1,9 @@
 //! The command `bench`: thread CPU time of whole tiles and of their coefficients alone, the
-//! original in serial order and ours.
+//! original in serial order and ours, and of writing the planes again, which the original cannot.
 
 use crate::oracle::{packet_coefficients, Counts};
 use crate::original::{decode_stream, packet_planes, parse_directory, DirEntry, Plane};
-use crate::ours::{Decoder, PacketDecoder, Slices};
+use crate::ours::{Decoder, PacketDecoder, Slices, Writer};
 use crate::records::Recipe;
 use crate::rng::Rng;
 use crate::size::Size;
@@ -21,11 +21,12 @@ const MEANS: [f64; 3] = [0.46, 1.42, 4.5];
 const WIDE: [f64; 3] = [70.0, 6000.0, 60_000.0];
 const HIGH: [u32; 2] = [12, 15];
 
-/// What is measured: whole tiles, or their coefficients alone.
+/// What is measured: whole tiles, their coefficients alone, or writing their planes.
 #[derive(Debug, Clone, Copy, PartialEq, Eq)]
 pub enum Part {
     Tile,
     Coefficients,
+    Write,
 }
 
 impl Part {
@@ -33,6 +34,7 @@ impl Part {
         match word {
             "tile" => Some(Part::Tile),
             "coefficients" => Some(Part::Coefficients),
+            "write" => Some(Part::Write),
             _ => None,
         }
     }
@@ -87,6 +89,32 @@ fn measure_tile(decoder: &impl Decoder, stream: &Stream) {
             assert_eq!(decoder.decode_stream(&stream.bytes, &mut slices).refusal, 0)
         }]);
     print_times(original, ours);
+}
+
+/// The planes of a tile written, beside decoding the stream that was written; the columns stay empty
+/// where the planes are refused, as those of large coefficients are.
+fn measure_writing(writer: &impl Writer, stream: &Stream) {
+    let [mut green, mut red, mut blue, mut work]: Slices = stream.size.needed().map(|length| vec![1; length]);
+    let decode = |stream: &[u8], slices: &mut Slices| writer.decode_stream(stream, slices).refusal;
+    let mut slices = [green, red, blue, work];
+    assert_eq!(decode(&stream.bytes, &mut slices), 0);
+    [green, red, blue, work] = slices;
+    let size = stream.size;
+    let mut written = vec![1; (size.n() + 1) * (50 * size.width + 480) + 768];
+    let mut write = |written: &mut [u8]| {
+        writer.write_stream([&green, &red, &blue], (size.width, size.height()), &mut work, written)
+    };
+    let answer = write(&mut written);
+    if answer.refusal != 0 {
+        return print!("{:>12}{:>9}{:>8}{:>8}", "-", "-", "-", "-");
+    }
+    let again = written[..answer.length as usize].to_vec();
+    let mut planes: Slices = size.needed().map(|length| vec![1; length]);
+    let [writing, decoding] = by_turns([&mut || assert_eq!(write(&mut written).refusal, 0), &mut || {
+        assert_eq!(decode(&again, &mut planes), 0)
+    }]);
+    let bits = again.len() as f64 * 8.0 / size.needed()[3] as f64;
+    print!("{writing:>12.3}{decoding:>9.3}{:>8.2}{bits:>8.2}", writing / decoding);
 }
 
 /// The packets of some groups of a stream.
@@ -201,24 +229,31 @@ fn lines() -> Vec<Line> {
 }
 
 /// Runs the table, or one part of its columns; then the packets whose rows have 16 columns.
-pub fn run(decoder: &impl PacketDecoder, only: Option<Part>) {
-    println!("thread CPU time in ms, best of {ROUNDS}; ratio is the original's time over ours");
+pub fn run<T: PacketDecoder + Writer>(ours: &T, only: Option<Part>) {
+    let has = |part: Part| only.is_none_or(|only| only == part);
+    println!(
+        "thread CPU time in ms, best of {ROUNDS}; ratio is the original's time over ours, in the columns"
+    );
+    println!("of write the time of writing over that of decoding");
     let mut rng = Rng::new(1);
     print_head(only);
     for line in lines() {
         let stream = line.stream(&mut rng);
-        if only != Some(Part::Coefficients) {
-            measure_tile(decoder, &stream);
+        if has(Part::Tile) {
+            measure_tile(ours, &stream);
         }
-        if only != Some(Part::Tile) {
-            measure_packets(decoder, &stream, &[0, 1, 2, 3, 4]);
+        if has(Part::Coefficients) {
+            measure_packets(ours, &stream, &[0, 1, 2, 3, 4]);
+        }
+        if has(Part::Write) {
+            measure_writing(ours, &stream);
         }
         println!();
     }
-    if only != Some(Part::Tile) {
+    if has(Part::Coefficients) {
         println!("\nrows of 16 columns");
         print_head(Some(Part::Coefficients));
-        run_short_rows(decoder, &mut rng);
+        run_short_rows(ours, &mut rng);
     }
 }
 
@@ -236,14 +271,16 @@ fn run_short_rows(decoder: &impl PacketDecoder, rng: &mut Rng) {
 }
 
 fn print_head(only: Option<Part>) {
+    let has = |part: Part| only.is_none_or(|only| only == part);
     print!("{:<14}{:>9}{:>8}", "size", "selectors", "bits");
-    for (part, name) in [(Part::Tile, "tile: Rust"), (Part::Coefficients, "coef.: Rust")] {
-        if only.is_none_or(|o| o == part) {
-            print!("{name:>12}{:>9}{:>8}", "ours", "ratio");
-        }
+    if has(Part::Tile) {
+        print!("{:>12}{:>9}{:>8}", "tile: Rust", "ours", "ratio");
     }
-    if only != Some(Part::Tile) {
-        print!("{:>12}{:>8}", "kept: Rust", "ratio");
+    if has(Part::Coefficients) {
+        print!("{:>12}{:>9}{:>8}{:>12}{:>8}", "coef.: Rust", "ours", "ratio", "kept: Rust", "ratio");
+    }
+    if has(Part::Write) {
+        print!("{:>12}{:>9}{:>8}{:>8}", "write: ours", "decode", "ratio", "bits");
     }
     println!();
 }

@@ -1,6 +1,6 @@
-//! The comparison of the proved tile decoder with the original in Rust: generators of streams and
-//! strips, the original's answers in document 01's terms, and the driver that holds the library's
-//! answers against them.
+//! The comparison of the proved tile decoder with the original in Rust: generators of streams, strips
+//! and planes, the original's answers in document 01's terms, a model of the writer, and the driver that
+//! holds the library's answers against them.
 
 // The original names its core crate; here that is this crate itself.
 extern crate self as flashraw_core;
@@ -29,7 +29,10 @@ pub mod ours;
 pub mod packets;
 #[cfg(test)]
 mod points;
+// Document 01's recovery as the crate in rust/ has it.
 pub mod records;
+#[path = "../../rust/src/recovery.rs"]
+pub mod recovery;
 pub mod rng;
 pub mod run;
 pub mod size;
@@ -40,4 +43,6 @@ pub mod sweep;
 pub mod vectors;
 pub mod watch;
 pub mod whole;
+pub mod write;
+pub mod writing;
 pub mod written;

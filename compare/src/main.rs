@@ -3,7 +3,7 @@
 mod sample;
 
 use compare::ours::Ours;
-use compare::{bench, largest, ordinary, run, sweep, vectors};
+use compare::{bench, largest, ordinary, run, sweep, vectors, write};
 use std::process::ExitCode;
 
 const HELP: &str = "\
@@ -20,11 +20,16 @@ compare: the proved ARW6 tile decoder against the original in Rust
         N random tiles (default 10000) with selectors up to 4, held against a synthesis on whole
         numbers, and one table with the largest magnitude of each stage. A mismatch ends with
         status 1, and the shortest stream that fails is written to FILE (default mismatch.bin)
+  compare write [--seed S] [--count N] [--out FILE]
+        N random calls of the writer (default 10000) and one table: bytes, refusals and slices are a
+        model's, and the original decodes each stream to the planes again. A mismatch ends with
+        status 1, and the first case, made smaller, is written to FILE (default mismatch.bin)
   compare largest
         a search for the largest numbers of such tiles, and tables of what was found; a tile on
         which decoders and whole numbers part ends with status 1
-  compare bench [--only tile|coefficients]
-        thread CPU time of one tile, the best of 9, the original in serial order and ours
+  compare bench [--only tile|coefficients|write]
+        thread CPU time of one tile, the best of 9, the original in serial order and ours, and
+        of writing its planes
   compare vectors DIR [--seed S]
         DIR/stdin, fixed cases with the original's answers, in the format that README.md
         describes, and DIR/stdout, what the program replay prints for them
@@ -65,6 +70,11 @@ fn command(words: &[String]) -> Result<ExitCode, String> {
             let options = Options::parse(rest, &["--seed", "--count", "--out"])?;
             let (seed, count) = (options.number("--seed", 1)?, options.number("--count", 10_000)?);
             tell_ordinary(ordinary::run(&Ours, seed, count as usize), &options)
+        }
+        "write" => {
+            let options = Options::parse(rest, &["--seed", "--count", "--out"])?;
+            let (seed, count) = (options.number("--seed", 1)?, options.number("--count", 10_000)?);
+            tell_written(write::run(&Ours, seed, count as usize), &options)
         }
         "largest" => {
             Options::parse(rest, &[])?;
@@ -134,6 +144,18 @@ fn tell_ordinary((tally, failing): ordinary::Outcome, options: &Options) -> Resu
     let path = options.get("--out").unwrap_or("mismatch.bin");
     std::fs::write(path, &stream).map_err(|e| format!("{path}: {e}"))?;
     println!("\nshortest mismatch, written to {path}: stream of {} bytes\n{what}", stream.len());
+    Ok(ExitCode::FAILURE)
+}
+
+/// Prints the table of written planes and writes the failing case, if there is one.
+fn tell_written((tally, failing): write::Outcome, options: &Options) -> Result<ExitCode, String> {
+    tally.print();
+    let Some((case, what)) = failing else {
+        return Ok(ExitCode::SUCCESS);
+    };
+    let path = options.get("--out").unwrap_or("mismatch.bin");
+    std::fs::write(path, vectors::written_case(&case)).map_err(|e| format!("{path}: {e}"))?;
+    println!("\nmismatch, written to {path}: {}\n{what}", case.describe());
     Ok(ExitCode::FAILURE)
 }
 

@@ -17,7 +17,7 @@ pub use mock::Mock as Ours;
 
 use crate::oracle::{Counts, Planes};
 use crate::size::{Shape, Size};
-pub use ffi::{Decoded, Lengths};
+pub use ffi::{Decoded, Lengths, Written};
 
 /// The lent slices: green, red, blue and work.
 pub type Slices = [Vec<i32>; 4];
@@ -28,6 +28,18 @@ pub trait Decoder {
     fn tile_field(&self, strip: &[u8], frame: (usize, usize), ordinal: usize, field: usize) -> usize;
     fn lengths(&self, stream: &[u8]) -> Lengths;
     fn decode_stream(&self, stream: &[u8], slices: &mut Slices) -> Decoded;
+}
+
+/// What the comparison asks of a writer besides.
+pub trait Writer: Decoder {
+    /// The stream of planes green, red and blue under a coded width and height.
+    fn write_stream(
+        &self,
+        planes: [&[i32]; 3],
+        sides: (usize, usize),
+        work: &mut [i32],
+        stream: &mut [u8],
+    ) -> Written;
 }
 
 impl Lengths {

@@ -14,6 +14,9 @@ mod ordinary;
 mod refusals;
 #[cfg(test)]
 mod tests;
+mod written;
+
+pub use written::written_case;
 
 /// Cases of a kind one after the other.
 struct Vectors {
@@ -23,12 +26,13 @@ struct Vectors {
 }
 
 /// The kinds and their writers; the number of the first is 1.
-const KINDS: [(&str, fn(&mut Vectors, &mut Rng)); 5] = [
+const KINDS: [(&str, fn(&mut Vectors, &mut Rng)); 6] = [
     ("strips", strips),
     ("refusals", refusals::refusals),
     ("records", records),
     ("tiles", tiles),
     ("listings", listings::listings),
+    ("written", written::written),
 ];
 
 impl Vectors {

@@ -2,6 +2,7 @@
 //! shown to a watcher.
 
 use crate::oracle;
+use crate::recovery::sources;
 use crate::size::Size;
 use crate::stages::{self, Part, Stage};
 use crate::streams::TILE_PACKETS;
@@ -70,14 +71,34 @@ fn shift(w: &mut impl Watch, stage: Stage, number: i64, bits: u32) -> i64 {
     outcome
 }
 
+/// A band before it is lifted: level 0 for band 0's sums, then hl, lh and hh of levels 1 to 3.
+#[derive(Debug, Clone, Copy, PartialEq, Eq)]
+pub struct Site {
+    pub index: usize,
+    pub level: usize,
+    pub band: usize,
+}
+
+/// What may change the rows of a band before they are lifted.
+pub type Change<'a> = &'a mut dyn FnMut(Site, &mut Rows);
+
 /// Green, red and blue.
 pub fn planes(c: &Coefficients, w: &mut impl Watch) -> [Rows; 3] {
-    [green(c, w), colour(c, 1, w), colour(c, 2, w)]
+    planes_changed(c, w, &mut |_, _| {})
+}
+
+/// The same with bands that are changed, for numbers that no coefficients give.
+pub fn planes_changed(c: &Coefficients, w: &mut impl Watch, change: Change) -> [Rows; 3] {
+    [green_changed(c, w, change), colour_changed(c, 1, w, change), colour_changed(c, 2, w, change)]
 }
 
 /// The red (1) or the blue plane (2).
 pub fn colour(c: &Coefficients, index: usize, w: &mut impl Watch) -> Rows {
-    let plane = levels(c, index, w);
+    colour_changed(c, index, w, &mut |_, _| {})
+}
+
+fn colour_changed(c: &Coefficients, index: usize, w: &mut impl Watch, change: Change) -> Rows {
+    let plane = levels(c, index, w, change);
     for (y, row) in plane.iter().enumerate() {
         row.iter().enumerate().for_each(|(x, &number)| w.number(stages::COLOUR, (y, x), number));
     }
@@ -85,9 +106,10 @@ pub fn colour(c: &Coefficients, index: usize, w: &mut impl Watch) -> Rows {
 }
 
 /// Band 0 and the three levels of an index.
-fn levels(c: &Coefficients, index: usize, w: &mut impl Watch) -> Rows {
-    let ll = band_0(c, index, w);
-    (1..=3).fold(ll, |ll, level| one_level(c, index, level, ll, w))
+fn levels(c: &Coefficients, index: usize, w: &mut impl Watch, change: Change) -> Rows {
+    let mut ll = band_0(c, index, w);
+    change(Site { index, level: 0, band: 0 }, &mut ll);
+    (1..=3).fold(ll, |ll, level| one_level(c, index, level, ll, w, change))
 }
 
 fn band_0(c: &Coefficients, index: usize, w: &mut impl Watch) -> Rows {
@@ -109,30 +131,6 @@ fn low_16(number: i64) -> i64 {
     (number + 32_768).rem_euclid(65_536) - 32_768
 }
 
-/// A row of a group: component, row, and whether E acts on it.
-type Source = (usize, usize, bool);
-
-/// Document 01's table: the rows that stand in row y of hl, lh and hh.
-fn sources(guarded: bool, level: usize, h: usize, y: usize) -> [Source; 3] {
-    let s = |component, row| (component, row, false);
-    let e_of = |component, row| (component, row, true);
-    let e = level - 1;
-    match (guarded, level) {
-        (false, 1) if y + 1 == h => [s(0, y), s(0, h), s(1, h)],
-        (false, 1) => [s(0, y), s(1, y + 1), s(2, y + 1)],
-        (false, _) if y < e => [s(0, y), s(0, y + e), e_of(1, y)],
-        (false, _) if y >= h - e => [s(0, y + e), s(0, y + 2 * e), e_of(1, y + e)],
-        (false, _) => [s(0, y + e), s(1, y + e), s(2, y + e)],
-        (true, 1) if y == h => [s(0, y), s(0, h + 1), s(1, h + 1)],
-        (true, 1) => [s(0, y + 1), s(1, y + 1), s(2, y + 1)],
-        (true, 2) if y == 0 => [s(0, 2), s(0, 0), e_of(0, 1)],
-        (true, 2) => [s(0, y + 2), s(1, y + 1), s(2, y + 1)],
-        (true, _) if y == 0 => [s(0, 0), s(0, 1), e_of(0, 2)],
-        (true, _) if y + 1 == h => [s(0, y + 3), s(0, h + 3), e_of(0, h + 4)],
-        (true, _) => [s(0, y + 3), s(1, y + 3), s(2, y + 3)],
-    }
-}
-
 /// 2v, plus v's sign if v is even, in odd mode if v is odd.
 fn e(v: i64, odd_mode: bool, place: Place, w: &mut impl Watch) -> i64 {
     let doubled = 2 * v;
@@ -141,7 +139,14 @@ fn e(v: i64, odd_mode: bool, place: Place, w: &mut impl Watch) -> i64 {
     shown(w, stages::E, place, doubled + sign)
 }
 
-fn one_level(c: &Coefficients, index: usize, level: usize, ll: Rows, w: &mut impl Watch) -> Rows {
+fn one_level(
+    c: &Coefficients,
+    index: usize,
+    level: usize,
+    ll: Rows,
+    w: &mut impl Watch,
+    change: Change,
+) -> Rows {
     let (h, guarded) = (ll.len(), c.size.guarded());
     let odd_mode = level == 3 && index > 0;
     let mut band = |band: usize, rows: usize| -> Rows {
@@ -153,7 +158,9 @@ fn one_level(c: &Coefficients, index: usize, level: usize, ll: Rows, w: &mut imp
             }
             numbers
         };
-        (0..rows).map(&mut row).collect()
+        let mut numbers = (0..rows).map(&mut row).collect();
+        change(Site { index, level, band }, &mut numbers);
+        numbers
     };
     let highs = h + (guarded && level == 1) as usize;
     let (hl, lh, hh) = (band(0, h), band(1, highs), band(2, highs));
@@ -214,7 +221,11 @@ fn lift(
 
 /// The full green plane.
 pub fn green(c: &Coefficients, w: &mut impl Watch) -> Rows {
-    let l = levels(c, 0, w);
+    green_changed(c, w, &mut |_, _| {})
+}
+
+fn green_changed(c: &Coefficients, w: &mut impl Watch, change: Change) -> Rows {
+    let l = levels(c, 0, w, change);
     let (top, skipped) = if c.size.guarded() { (2, 6) } else { (4, 4) };
     let detail = |y| c.row(4, 0, 0, if y < top { y } else { y + skipped }, w);
     let d: Rows = (0..l.len()).map(detail).collect();

@@ -1,6 +1,6 @@
 //! The static libraries `libarw6.a` and `libcoefficients.a`.
 
-use super::{ffi, Decoded, Decoder, Lengths, PacketDecoder, Slices};
+use super::{ffi, Decoded, Decoder, Lengths, PacketDecoder, Slices, Writer, Written};
 use crate::oracle::Counts;
 use crate::size::Shape;
 
@@ -43,6 +43,18 @@ impl Decoder for Library {
 
     fn decode_stream(&self, stream: &[u8], [green, red, blue, work]: &mut Slices) -> Decoded {
         ffi::decode_stream(stream, green, red, blue, work)
+    }
+}
+
+impl Writer for Library {
+    fn write_stream(
+        &self,
+        planes: [&[i32]; 3],
+        sides: (usize, usize),
+        work: &mut [i32],
+        stream: &mut [u8],
+    ) -> Written {
+        ffi::write_stream(planes, sides, work, stream)
     }
 }
 

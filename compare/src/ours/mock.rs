@@ -1,8 +1,10 @@
-//! The original behind the library's interface, so that the driver can be tested alone.
+//! The original and the model of the writer behind the library's interface, so that the driver can be
+//! tested alone.
 
-use super::{Decoded, Decoder, Lengths, PacketDecoder, Slices};
+use super::{Decoded, Decoder, Lengths, PacketDecoder, Slices, Writer, Written};
 use crate::oracle::{self, Counts};
 use crate::size::Shape;
+use crate::writing::{self, Call};
 
 pub struct Mock;
 
@@ -27,6 +29,21 @@ impl Decoder for Mock {
             write(planes, slices);
         }
         Decoded::by(answer.as_ref())
+    }
+}
+
+impl Writer for Mock {
+    fn write_stream(
+        &self,
+        planes: [&[i32]; 3],
+        sides: (usize, usize),
+        work: &mut [i32],
+        stream: &mut [u8],
+    ) -> Written {
+        let outcome = writing::write(&Call { planes, sides, work: work.len(), stream: stream.len() });
+        work[..outcome.zeroed].fill(0);
+        stream[..outcome.stream.len()].copy_from_slice(&outcome.stream);
+        Written { refusal: outcome.refusal, length: outcome.stream.len() as u64 }
     }
 }
 

@@ -2,6 +2,8 @@
 
 use super::*;
 use crate::oracle::Course;
+use crate::ours::mock::Mock;
+use crate::write::{self, Case};
 
 /// A reader of the format.
 struct Reader<'a>(&'a [u8]);
@@ -164,4 +166,24 @@ fn listings_read_back() {
         (4104, "tiles 1\n736 144 16 8 16 32\n"),
     ];
     assert_eq!(texts[..6], expected.map(|(length, text)| (length, text.to_string())));
+}
+
+#[test]
+fn written_read_back() {
+    let (mut numbers, mut last_4) = ([0; 27], 0);
+    read_all("written", 400_000, |r| {
+        let [input, width, height, green, red, blue, work, stream, refusal, length, zeroed] = r.words();
+        assert_eq!(input, 4 * (green + red + blue));
+        let planes = [green, red, blue].map(|count| r.numbers(count));
+        let case = Case { sides: (width, height), planes, work, stream };
+        let expected = case.expected();
+        assert_eq!((expected.refusal as usize, expected.zeroed), (refusal, zeroed));
+        assert!(expected.stream == r.take(length));
+        assert!(green <= 1024 && red.max(blue) <= 512 && work <= 4096 && stream <= 8192);
+        assert!(write::check(&Mock, &case).is_ok());
+        numbers[refusal] += 1;
+        last_4 += (refusal == 4 && zeroed > 0) as usize;
+    });
+    assert!([0, 2, 3, 4, 24, 25].into_iter().all(|number| numbers[number] >= 5), "{numbers:?}");
+    assert!(last_4 >= 5 && numbers[0] > 200 && numbers[25] > 200, "{last_4} {numbers:?}");
 }

@@ -6,6 +6,7 @@ mod refusals;
 mod strips;
 mod tiles;
 mod vectors;
+mod written;
 
 ghost use mathlib.Core.Path.{_≡_};
 ghost use Prim.Native.Nat.{_+_, _*_, _≤_, _<_, _^_};
@@ -29,43 +30,47 @@ const TILES: usize = 4;
 
 const LISTINGS: usize = 5;
 
+const WRITTEN: usize = 6;
+
 // The kind of the next case; none where the input ends, and for a number that no kind has.
 fn next_kind() -> usize
-    ensures { λ r. ⌜ r < 6 ⌝ }
+    ensures { λ r. ⌜ r < 7 ⌝ }
 {
     let kind = next_word();
-    if LISTINGS < kind { NONE } else { kind }
+    if WRITTEN < kind { NONE } else { kind }
 }
 
 // The bytes of the words that lead a case of a kind; the first word is the length of its input.
 fn head_length(kind: usize) -> usize
-    ensures { λ r. ⌜ r ≤ 28 ⌝ }
+    ensures { λ r. ⌜ r ≤ 44 ⌝ }
 {
     match kind {
         STRIPS => 16,
         REFUSALS => 24,
         RECORDS | TILES => 28,
         LISTINGS => 8,
+        WRITTEN => 44,
         _ => 0,
     }
 }
 
 // The bytes of its answer.
 fn answer_length(kind: usize, head: &[u8]) -> usize
-    requires { ⌜ 28 ≤ length (now head) ⌝ }
+    requires { ⌜ 44 ≤ length (now head) ⌝ }
 {
     match kind {
         STRIPS => strips::answer_length(head),
         RECORDS => records::answer_length(head),
         TILES => tiles::answer_length(head),
         LISTINGS => listings::answer_length(head),
+        WRITTEN => written::answer_length(head),
         _ => 0,
     }
 }
 
 // Whether the input comes out as the answer says.
 fn right_answer(kind: usize, head: &[u8], input: &[u8], answer: &[u8]) -> bool
-    requires { ⌜ 28 ≤ length (now head) ⌝ }
+    requires { ⌜ 44 ≤ length (now head) ⌝ }
 {
     match kind {
         STRIPS => strips::right_case(head, input, answer),
@@ -73,13 +78,14 @@ fn right_answer(kind: usize, head: &[u8], input: &[u8], answer: &[u8]) -> bool
         RECORDS => records::right_case(head, input, answer),
         TILES => tiles::right_case(head, input, answer),
         LISTINGS => listings::right_case(input, answer),
+        WRITTEN => written::right_case(head, input, answer),
         _ => false,
     }
 }
 
 // Reads the words of a case; false where the input ends before.
 fn read_head(kind: usize, head: &mut [u8]) -> bool
-    requires { ⌜ 28 ≤ length (now head) ⌝ }
+    requires { ⌜ 44 ≤ length (now head) ⌝ }
 {
     let n = head_length(kind);
     read(&mut head[0..n])
@@ -87,7 +93,7 @@ fn read_head(kind: usize, head: &mut [u8]) -> bool
 
 // Reads the input and the answer of a case: whether both are whole, and the one comes out as the other says.
 fn read_case(kind: usize, head: &[u8], input: &mut [u8], answer: &mut [u8]) -> bool
-    requires { ⌜ 28 ≤ length (now head) ⌝ }
+    requires { ⌜ 44 ≤ length (now head) ⌝ }
 {
     let n = word(head, 0);
     let end = answer_length(kind, head);
@@ -108,7 +114,7 @@ fn read_case(kind: usize, head: &[u8], input: &mut [u8], answer: &mut [u8]) -> b
 
 // Whether the next case, which is of that kind, comes out as it should. There is room for an input of one byte more than `tiles` takes.
 fn right_case(kind: usize) -> bool {
-    let mut head = [0u8; 28];
+    let mut head = [0u8; 44];
     let mut input = [0u8; 65537];
     let mut answer = [0u8; 8192];
     if !read_head(kind, &mut head) {
@@ -119,7 +125,7 @@ fn right_case(kind: usize) -> bool {
 
 // The next case's place in the tally: 2k where it comes out as it should, and 2k + 1 where not, for kind k.
 fn next_case() -> usize
-    ensures { λ r. ⌜ r < 12 ⌝ }
+    ensures { λ r. ⌜ r < 14 ⌝ }
 {
     let kind = next_kind();
     if right_case(kind) {
@@ -130,11 +136,11 @@ fn next_case() -> usize
 }
 
 // The tally of the cases that follow: each counts once.
-fn run(cases: usize) -> [usize; 12]
+fn run(cases: usize) -> [usize; 14]
     requires { ⌜ cases < 2 ^ 32 ⌝ }
-    ensures { λ r. ⌜ (length r ≡ 12) × (total r ≡ cases) ⌝ }
+    ensures { λ r. ⌜ (length r ≡ 14) × (total r ≡ cases) ⌝ }
 {
-    let mut tally = [0usize; 12];
+    let mut tally = [0usize; 14];
     let mut i = 0;
     while i < cases {
         let at = next_case();
@@ -163,5 +169,6 @@ fn main() {
     report(b"records: ", RECORDS, &tally);
     report(b"tiles: ", TILES, &tally);
     report(b"listings: ", LISTINGS, &tally);
+    report(b"written: ", WRITTEN, &tally);
     report(b"of no kind: ", NONE, &tally);
 }

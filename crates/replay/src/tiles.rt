@@ -3,16 +3,15 @@
 // word for each number of green, red and blue. A refused stream has 0 in the last five words, and no planes.
 ghost use Prim.Native.Nat.{_<_, _≤_, _^_};
 ghost use lib.ListN.{length};
+use crate::vectors::PATTERN;
 use crate::vectors::all;
+use crate::vectors::right_work;
 use crate::vectors::same;
 use crate::vectors::small;
 use crate::vectors::word;
 use packets::lengths_of;
 use tile::Decoded;
 use tile::decode_stream;
-
-// What the lent slices hold before the call, and where nothing is to be written also after it.
-const PATTERN: i32 = 77;
 
 // Whether the counts are those of the case, and stopped is their sum.
 fn right_counts(head: &[u8], answer: Decoded) -> bool
@@ -71,17 +70,6 @@ fn right_planes(green: &[i32], red: &[i32], blue: &[i32], want: &[u8]) -> bool {
         return false;
     }
     right_plane(blue, &want[b..])
-}
-
-// Whether work starts with n zeros, and holds the pattern after them.
-fn right_work(work: &[i32], n: usize) -> bool {
-    if work.len() < n {
-        return false;
-    }
-    if !all(&work[0..n], 0) {
-        return false;
-    }
-    all(&work[n..], PATTERN)
 }
 
 // The numbers of work that a tile uses.
