@@ -13,9 +13,9 @@
 #include <stddef.h>
 #include <stdint.h>
 
-#define ARW6_VERSION "0.3.0"
+#define ARW6_VERSION "0.4.0"
 #define ARW6_VERSION_MAJOR 0
-#define ARW6_VERSION_MINOR 3
+#define ARW6_VERSION_MINOR 4
 #define ARW6_VERSION_PATCH 0
 
 #ifdef __cplusplus
@@ -81,6 +81,31 @@ struct arw6_decoded {
    536,870,912, so the sum and the difference of two fit int32_t. */
 struct arw6_decoded arw6_decode_stream(const uint8_t *stream, size_t stream_len, int32_t *green, size_t green_len, int32_t *red, size_t red_len, int32_t *blue, size_t blue_len, int32_t *work, size_t work_len);
 
+/* What writing one tile answers. A refusal (2, 3, 4, 20, 24, 25 or 26) comes with length 0. */
+struct arw6_written {
+    uint64_t refusal; /* 0: accepted */
+    uint64_t length;  /* of the stream, in bytes */
+};
+
+/* Writes the stream of one tile, of the coded width w and the coded height H, from its planes: decoded, it gives exactly these planes, and no
+   record of it stops early.
+
+   Lent, and never kept: green, red and blue, of which the first R by w numbers, R by w / 2 and R by w / 2 are read, work, of 16 (n + 1) w numbers
+   or more, and stream for the bytes. Accepted, the stream stands at the start of its slice. Refused, no byte of it changes. Bytes past the
+   stream and numbers of work past 16 (n + 1) w are as they were in either case.
+
+   The refusals, in the order of the checks, with w and H in place of a header: 2 where no valid header holds them (w is 0, no multiple of 16 or
+   above 65,535; H is 0, odd or above 131,070); 3; 4 where green, red, blue or work is too short; 20; 24; 25 and 26, see their words; and 4 again,
+   last of all, where stream is shorter than the stream. After 25, 26 and that last 4 the first 16 (n + 1) w numbers of work are 0, as they are
+   after an accepted call; the other refusals leave work as it was.
+
+   No stream is longer than (n + 1) (50 w + 480) + 768 bytes, so with that many lent the last 4 is never met.
+
+   Few pictures are accepted as they come: at the top and at the bottom the format holds values of E alone, which only about half of all
+   numbers are. Eight rows at the top and eight at the bottom that are constant along the row are enough for any picture of 12-bit codes
+   between them, in tiles of up to 7,400 columns. */
+struct arw6_written arw6_write_stream(const int32_t *green, size_t green_len, const int32_t *red, size_t red_len, const int32_t *blue, size_t blue_len, size_t width, size_t height, int32_t *work, size_t work_len, uint8_t *stream, size_t stream_len);
+
 /* A refusal in words. */
 static inline const char *arw6_refusal_words(uint64_t refusal)
 {
@@ -109,7 +134,9 @@ static inline const char *arw6_refusal_words(uint64_t refusal)
         "a packet's rows do not fit the coded height",
         "a packet has more records than a stream of this length may have",
         "a packet of kind 1 stands in group 1, 2 or 3",
-        "the coded height is under 16"
+        "the coded height is under 16",
+        "a coefficient is above 524,287 in magnitude, a step of band 0 leaves 16 bits, or an edge value is no value of E",
+        "a record would be longer than 65,535 bytes, or a group longer than 268,435,440"
     };
     if (refusal >= sizeof words / sizeof words[0])
         return "a number that this header has no words for";

@@ -1,15 +1,15 @@
-//! Why a tile was not decoded.
+//! Why a tile was not decoded, or planes were not written.
 
 use crate::Refusal;
 use std::fmt;
 
-/// A stream that was refused, or memory that cannot be had.
+/// A stream or planes that were refused, or memory that cannot be had.
 #[derive(Debug, Clone, Copy, PartialEq, Eq)]
 #[non_exhaustive]
 pub enum Error {
-    /// The stream was refused; no number of any slice was changed.
+    /// The stream or the planes were refused; of decoding, no number of any slice was changed.
     Refused(Refusal),
-    /// The memory for the planes of a tile cannot be had.
+    /// The memory for the planes of a tile, or for writing them, cannot be had.
     Memory {
         /// How many numbers of 32 bits the tile takes in all.
         numbers: usize,
@@ -28,7 +28,7 @@ impl fmt::Display for Error {
             Error::Refused(refusal) => refusal.fmt(f),
             Error::Memory { numbers } => {
                 let megabytes = (numbers * 4).div_ceil(1_000_000);
-                write!(f, "the memory for its planes, {megabytes} MB, cannot be had")
+                write!(f, "the memory for it, {megabytes} MB, cannot be had")
             }
         }
     }

@@ -28,6 +28,14 @@ pub struct Decoded {
     pub spent: u64,
 }
 
+/// The answer for planes that are to be written; a refusal has length 0.
+#[repr(C)]
+#[derive(Debug, Clone, Copy, Default, PartialEq, Eq)]
+pub struct Written {
+    pub refusal: u64,
+    pub length: u64,
+}
+
 extern "C" {
     fn arw6_tile_count(strip: *const u8, strip_len: usize, frame_width: usize, frame_height: usize) -> usize;
     fn arw6_tile_field(
@@ -51,6 +59,20 @@ extern "C" {
         work: *mut i32,
         work_len: usize,
     ) -> Decoded;
+    fn arw6_write_stream(
+        green: *const i32,
+        green_len: usize,
+        red: *const i32,
+        red_len: usize,
+        blue: *const i32,
+        blue_len: usize,
+        width: usize,
+        height: usize,
+        work: *mut i32,
+        work_len: usize,
+        stream: *mut u8,
+        stream_len: usize,
+    ) -> Written;
 }
 
 /// How many tiles a strip has in a frame of a width and a height.
@@ -92,6 +114,33 @@ pub fn decode_stream(
             blue.len(),
             work.as_mut_ptr(),
             work.len(),
+        )
+    }
+}
+
+/// The stream of a tile of a coded width and height from its planes, green, red and blue, with the work
+/// slice.
+pub fn write_stream(
+    [green, red, blue]: [&[i32]; 3],
+    (width, height): (usize, usize),
+    work: &mut [i32],
+    stream: &mut [u8],
+) -> Written {
+    // SAFETY: as for decoding; the planes are only read.
+    unsafe {
+        arw6_write_stream(
+            green.as_ptr(),
+            green.len(),
+            red.as_ptr(),
+            red.len(),
+            blue.as_ptr(),
+            blue.len(),
+            width,
+            height,
+            work.as_mut_ptr(),
+            work.len(),
+            stream.as_mut_ptr(),
+            stream.len(),
         )
     }
 }

@@ -33,25 +33,34 @@ impl Lengths {
             number => Err(Refusal::new(number)),
         }
     }
+
+    /// The lengths for a coded width and height, or refusal 2 where no valid header holds them, or 3.
+    pub fn of_size(width: usize, height: usize) -> Result<Lengths, Refusal> {
+        let header = u16::try_from(width).ok().zip(u16::try_from(height / 2).ok());
+        match header.filter(|_| height.is_multiple_of(2)) {
+            Some((width, half_height)) => Lengths::of(&header_of(width, half_height)),
+            None => Err(Refusal::new(2)),
+        }
+    }
+}
+
+/// A valid stream header with a width and a half height, and nothing else.
+fn header_of(width: u16, half_height: u16) -> [u8; 128] {
+    let mut stream = [0; 128];
+    stream[..4].copy_from_slice(b"A000");
+    stream[8..10].copy_from_slice(&width.to_be_bytes());
+    stream[10..12].copy_from_slice(&half_height.to_be_bytes());
+    stream[12..16].copy_from_slice(&[1, 0, 0x6c, 0]);
+    stream
 }
 
 #[cfg(test)]
 mod tests {
     use super::*;
 
-    /// A valid stream header with a width and a half height, and nothing else.
-    fn header(width: u16, half_height: u16) -> Vec<u8> {
-        let mut stream = vec![0; 128];
-        stream[..4].copy_from_slice(b"A000");
-        stream[8..10].copy_from_slice(&width.to_be_bytes());
-        stream[10..12].copy_from_slice(&half_height.to_be_bytes());
-        stream[12..16].copy_from_slice(&[1, 0, 0x6c, 0]);
-        stream
-    }
-
     #[test]
     fn rows_of_plain_and_guarded_heights() {
-        let rows = |height: u16| Lengths::of(&header(16, height / 2)).unwrap().rows;
+        let rows = |height: usize| Lengths::of_size(16, height).unwrap().rows;
         assert_eq!([14, 16, 18, 26, 32].map(rows), [4, 8, 12, 12, 16]);
     }
 
@@ -59,14 +68,20 @@ mod tests {
     fn each_length() {
         let (width, height, rows) = (16, 26, 12);
         let lengths = Lengths { width, height, rows, green: 192, red: 96, blue: 96, work: 768 };
-        assert_eq!(Lengths::of(&header(16, 13)), Ok(lengths));
+        assert_eq!(Lengths::of(&header_of(16, 13)), Ok(lengths));
+        assert_eq!(Lengths::of_size(16, 26), Ok(lengths));
     }
 
     #[test]
     fn refusals_2_and_3() {
         let number = |stream: &[u8]| Lengths::of(stream).unwrap_err().number();
-        assert_eq!(number(&header(16, 13)[..127]), 2);
-        assert_eq!(number(&header(0, 13)), 2);
-        assert_eq!(number(&header(65520, 65535)), 3);
+        assert_eq!(number(&header_of(16, 13)[..127]), 2);
+        assert_eq!(number(&header_of(0, 13)), 2);
+        assert_eq!(number(&header_of(65520, 65535)), 3);
+        let sizes =
+            [(0, 16), (8, 16), (16, 0), (16, 17), (65_536, 16), (16, 131_072), (1 << 40, 16), (16, 1 << 40)];
+        let number = |(width, height)| Lengths::of_size(width, height).unwrap_err().number();
+        assert!(sizes.into_iter().all(|size| number(size) == 2));
+        assert_eq!(number((65_520, 131_070)), 3);
     }
 }

@@ -2,7 +2,7 @@
 
 use std::fmt;
 
-/// Why a strip or a stream was refused: a number and its meaning.
+/// Why a strip, a stream or planes were refused: a number and its meaning.
 #[derive(Debug, Clone, Copy, PartialEq, Eq, Hash)]
 pub struct Refusal(u64);
 
@@ -50,6 +50,10 @@ pub fn meaning(number: u64) -> Option<&'static str> {
         22 => "a packet has more records than a stream of this length may have",
         23 => "a packet of kind 1 stands in group 1, 2 or 3",
         24 => "the coded height is under 16",
+        25 => {
+            "a coefficient is above 524,287 in magnitude, a step of band 0 leaves 16 bits, or an edge value is no value of E"
+        }
+        26 => "a record would be longer than 65,535 bytes, or a group longer than 268,435,440",
         _ => return None,
     })
 }
@@ -70,13 +74,13 @@ mod tests {
     fn number_and_words_are_shown() {
         assert_eq!(Refusal::NO_TILE.to_string(), "refusal 1: no tile located in the strip");
         assert_eq!(Refusal::new(24).to_string(), "refusal 24: the coded height is under 16");
-        assert_eq!(Refusal::new(25).to_string(), "refusal 25: a number that this version has no words for");
+        assert_eq!(Refusal::new(27).to_string(), "refusal 27: a number that this version has no words for");
     }
 
     #[test]
     fn no_two_meanings_are_alike() {
         let meanings: Vec<&str> = (1..).map_while(meaning).collect();
-        assert_eq!((meaning(0), meanings.len()), (None, 24));
+        assert_eq!((meaning(0), meanings.len()), (None, 26));
         for (i, words) in meanings.iter().enumerate() {
             assert!(!meanings[..i].contains(words));
         }

@@ -19,7 +19,7 @@ fn memory_that_cannot_be_had() {
     for (command, counts) in commands {
         let script = format!("ulimit -v 1000000; exec \"$0\" {command} \"$1\" \"$2\"");
         let (status, out, error) = shell(&script, &[&large, SAMPLE_FILE, word(&folder)]);
-        let expected = format!("arw6: {large}: tile 0: the memory for its planes, 2152 MB, cannot be had\n");
+        let expected = format!("arw6: {large}: tile 0: the memory for it, 2152 MB, cannot be had\n");
         assert_eq!((status, error), (1, expected));
         assert!(out.contains(counts) && out.lines().count() >= 2);
         assert!(!folder.join("large.frame.planes").exists());

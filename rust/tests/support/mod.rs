@@ -143,3 +143,23 @@ pub fn png_pixels(file: &[u8]) -> Vec<u8> {
     }
     pixels
 }
+
+/// Planes green, red and blue of a coded size: any 12-bit codes between eight rows at the top and eight
+/// at the bottom, each of which is constant along the row.
+pub fn picture(width: usize, height: usize, seed: u32) -> [Vec<i32>; 3] {
+    let rows = arw6::Lengths::of_size(width, height).unwrap().rows;
+    let mut state = seed.wrapping_mul(2_654_435_761);
+    let mut code = move || {
+        state = state.wrapping_mul(1_664_525).wrapping_add(1_013_904_223);
+        (state >> 20) as i32 - 2048
+    };
+    [width, width / 2, width / 2].map(|columns| {
+        let mut plane = Vec::new();
+        for y in 0..rows {
+            let level = code();
+            let inner = y >= 8 && y + 8 < rows;
+            plane.extend((0..columns).map(|_| if inner { code() } else { level }));
+        }
+        plane
+    })
+}

@@ -16,6 +16,7 @@ pub enum Command {
     Planes { folder: PathBuf, force: bool, picture: bool },
     Digest,
     Check { quiet: bool },
+    Write { file: PathBuf, height: Option<usize>, bare: bool, force: bool },
 }
 
 /// A command, the files that it runs on, and how.
@@ -36,7 +37,7 @@ pub struct Job {
 }
 
 /// The options that take no value, and those that take one.
-const FLAGS: [&str; 9] = [
+const FLAGS: [&str; 10] = [
     "--json",
     "--recursive",
     "--strict",
@@ -44,10 +45,14 @@ const FLAGS: [&str; 9] = [
     "--no-picture",
     "--check",
     "--quiet",
+    "--stream",
     "--help",
     "--version",
 ];
-const VALUES: [&str; 3] = ["--frame", "--jobs", "--out"];
+const VALUES: [&str; 4] = ["--frame", "--height", "--jobs", "--out"];
+
+/// The options of the commands that take files of frames.
+const COMMON: [&str; 5] = ["--frame", "--jobs", "--json", "--recursive", "--strict"];
 
 /// The long name of a short option.
 fn long_name(short: u8) -> Option<&'static str> {
@@ -73,10 +78,11 @@ struct Words {
 /// Takes the words apart, or says what is wrong with them.
 pub fn parse(mut words: impl Iterator<Item = OsString>) -> Result<Request, String> {
     let first = words.next().ok_or("no command")?;
-    let (allowed, help): (&[&str], &str) = match first.to_str() {
-        Some("tiles") => (&[], help::TILES),
-        Some("planes") => (&["--out", "--force", "--no-picture"], help::PLANES),
-        Some("digest") => (&["--check", "--quiet"], help::DIGEST),
+    let (common, own, help): (&[&str], &[&str], &str) = match first.to_str() {
+        Some("tiles") => (&COMMON, &[], help::TILES),
+        Some("planes") => (&COMMON, &["--out", "--force", "--no-picture"], help::PLANES),
+        Some("digest") => (&COMMON, &["--check", "--quiet"], help::DIGEST),
+        Some("write") => (&["--json"], &["--out", "--force", "--height", "--stream"], help::WRITE),
         Some("--help" | "-h" | "help") => return Ok(Request::Show(help::ALL.to_string())),
         Some("--version" | "-V") => return Ok(Request::Show(version())),
         _ => return Err(format!("unknown command {}", first.display())),
@@ -88,7 +94,7 @@ pub fn parse(mut words: impl Iterator<Item = OsString>) -> Result<Request, Strin
     if words.has("--version") {
         return Ok(Request::Show(version()));
     }
-    words.only(&first, allowed)?;
+    words.only(&first, &[common, own].concat())?;
     words.job(&first).map(Request::Run)
 }
 
@@ -160,10 +166,9 @@ impl Words {
 
     /// An option of another command is bad usage.
     fn only(&self, command: &OsStr, allowed: &[&str]) -> Result<(), String> {
-        let common = ["--frame", "--jobs", "--json", "--recursive", "--strict"];
         let given = self.flags.iter().chain(self.values.iter().map(|(name, _)| name));
         for name in given {
-            if !common.contains(name) && !allowed.contains(name) {
+            if !allowed.contains(name) {
                 return Err(format!("{name} does not go with {}", command.display()));
             }
         }
@@ -198,6 +203,16 @@ impl Words {
                 let (force, picture) = (self.has("--force"), !self.has("--no-picture"));
                 Command::Planes { folder: folder.into(), force, picture }
             }
+            Some("write") => {
+                if self.inputs.len() != 3 {
+                    return Err("write needs three files: green, red and blue".to_string());
+                }
+                let file =
+                    self.value("--out").filter(|file| !file.is_empty()).ok_or("write needs --out FILE")?;
+                let height = self.value("--height").map(coded_height).transpose()?;
+                let (bare, force) = (self.has("--stream"), self.has("--force"));
+                Command::Write { file: file.into(), height, bare, force }
+            }
             Some("digest") if self.has("--check") => {
                 if self.has("--recursive") {
                     return Err("--check takes lists, and -r takes folders of frames".to_string());
@@ -216,6 +231,11 @@ fn frame_size(word: &OsStr) -> Result<(usize, usize), String> {
     let sides = word.to_str().and_then(|word| word.split_once('x'));
     let sides = sides.and_then(|(w, h)| Some((w.parse().ok()?, h.parse().ok()?)));
     sides.ok_or("--frame wants a width and a height, as in 640x480".to_string())
+}
+
+fn coded_height(word: &OsStr) -> Result<usize, String> {
+    let height = word.to_str().and_then(|word| word.parse().ok());
+    height.ok_or("--height wants a number of rows of the sensor".to_string())
 }
 
 fn jobs(word: &OsStr) -> Result<usize, String> {

@@ -7,12 +7,14 @@ arw6: what Sony ARW6 raw files hold, by the proved decoder
   arw6 planes FILE.. --out DIR    write the numbers of green, red and blue, and pictures
   arw6 digest FILE.. > LIST       note a SHA-256 of each tile's planes
   arw6 digest --check LIST        say whether the files still give those planes
+  arw6 write G.npy R.npy B.npy --out FILE
+                                  a frame file that decodes to exactly these planes
   arw6 COMMAND --help             more about a command
   arw6 -V, --version
 
 FILE is a camera's .ARW file, or a frame file (frame width and height, 32-bit little-endian
 each, then the strip); - is standard input. Words after -- are files, whatever they begin
-with. For every command:
+with. For every command but write:
 
   -r, --recursive   FILE may be a folder: all .ARW and .frame files below it
   -j, --jobs N      N files at once (as many as there are cores)
@@ -65,4 +67,25 @@ it was given. docs/DIGEST.md defines all of it down to the byte.
 With --check each line of the lists is made anew from its file and held against the list:
 OK, FAILED, missing, unreadable or refused with its number. --quiet leaves out those that
 are OK. Status 1 if any is not OK, or if a list has other lines.
+";
+
+pub const WRITE: &str = "\
+arw6 write GREEN.npy RED.npy BLUE.npy --out FILE [--stream] [--height H] [--force] [--json]
+
+Writes one tile whose planes are exactly these numbers, as a frame file (frame width and
+height, 32-bit little-endian each, then a strip with a table of one tile), or with --stream
+its bare stream. The planes are those of 'arw6 planes': whole numbers that fit 32 bits, rows
+first. Green has R rows and w columns, red and blue have R rows and w / 2 columns; w is a
+multiple of 16, R one of 4. The coded height H is 2 R, or what --height says: another even
+one that has R rows, 8 n, or 8 n - 4 if H is no multiple of 16 (n is H / 16 rounded up).
+
+Leave a margin: eight rows at the top and eight at the bottom of each plane, each constant
+along the row. There the format holds values of E alone, which only about half of all
+numbers are, so few drawn pictures are accepted as they come; with the margin any picture
+of 12-bit codes (numbers from -2048 to 2047) is, in tiles of up to 7,400 columns.
+
+Where a number cannot be held (refusal 25), the first one is named by plane, row and column:
+where it stands, and the rows and columns that it is computed from. What it is said to be is
+not the plane's number there, but what these come to. Nothing is written then. A FILE that
+is there already is refused; --force replaces it.
 ";

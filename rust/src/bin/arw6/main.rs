@@ -1,4 +1,4 @@
-//! The command line tool `arw6`: tiles, planes and digests of camera files.
+//! The command line tool `arw6`: tiles, planes and digests of camera files, and frames from planes.
 
 mod args;
 mod batch;
@@ -19,6 +19,7 @@ mod png;
 mod results;
 mod tiles;
 mod walk;
+mod write;
 
 use args::{Command, Job, Request};
 use arw6::Buffers;
@@ -64,6 +65,10 @@ fn run(job: &Job) -> ExitCode {
     if let Command::Check { quiet } = job.command {
         return status(check_lists(job, quiet));
     }
+    if let Command::Write { file, height, bare, force } = &job.command {
+        let options = write::Options { height: *height, bare: *bare, force: *force, json: job.json };
+        return status(tell(job, write::run(&job.inputs, file, options)));
+    }
     let endings: &[&str] = if job.frame.is_some() { &[".strip"] } else { &[".ARW", ".frame"] };
     let walk = Walk::new(&job.inputs, job.recurse, endings);
     if let (Command::Planes { .. }, Some((one, other))) = (&job.command, walk.clash()) {
@@ -73,6 +78,13 @@ fn run(job: &Job) -> ExitCode {
     let alone = walk.inputs.len() == 1 && walk.notes.is_empty();
     let work = |input: &Input, buffers: &mut Buffers| one_file(job, input, alone, buffers);
     status(all(job, &walk.inputs, walk.notes, &work).map(|(good, _)| good))
+}
+
+/// Tells the outcome of a command that is one piece of work.
+fn tell(job: &Job, outcome: Outcome) -> Result<bool> {
+    let mut console = Console::new(1);
+    outcome.notes.iter().for_each(|line| console.note(line));
+    console.out(&outcome.out).map(|()| !(outcome.bad || job.strict && outcome.damaged))
 }
 
 /// Runs the command on one file.
