@@ -15,7 +15,7 @@ use Rattle.format.specs.Recovery.{oOf, dOf, lOf}
 
 -- in any arithmetic
 module _ (A : Arithmetic ℤ) (h c : ℕ) where
-  guess-same : (d d′ : Plane) → SameOn h c d d′ → SameOn h c (guess A c d) (guess A c d′)
+  pub guess-same : (d d′ : Plane) → SameOn h c d d′ → SameOn h c (guess A c d) (guess A c d′)
   unfolding guess
   guess-same d d′ s y x p q =
       let z : min (x + 1) (c - 1) < c = omega arith in

@@ -1,4 +1,4 @@
--- How the status of a record's reader moves, and that stopped records are the broken and the spent ones. Assumes nothing.
+-- How a record's reader moves, and that stopped records are the broken and the spent ones. Assumes nothing.
 use mathlib.Core.Path.{_≡_, refl, sym, ap, _∙_}
 use mathlib.Core.List.{List, _++_}
 use mathlib.Core.Bool.{Bool, true, false, cond}
@@ -11,35 +11,42 @@ use lib.IntN.{ℤ, pos}
 use lib.ListN.{take, length-replicate, replicate-append-replicate}
 use lib.Seq.{take-at}
 use lib.Signed.{ltZ}
-use borrow.Author.Tests.{eq-eqb, ne-eqb, eqb-true}
+use borrow.Author.Tests.{eq-eqb, ne-eqb, eqb-true, leb-true, ltb-true}
 use Rattle.wrap32.proofs.Laws.{of-cond}
 use Rattle.format.specs.Bits.{zerosAt}
 use Rattle.format.specs.Sizes.{Colour, green, red, blue, l1, l2, l3, Group, base, detail, final}
 use Rattle.format.specs.Packets.{kind, blocks, recordLength, selector, payloadAt}
 use Rattle.format.specs.Refusals.{_▷_, each}
-use Rattle.format.specs.Reader.{Reader, Taken, startOf, readOf, unaryOf, findOf, updateSecond, updateFirst, updateOf, runFound, runOf, bitLength}
+use Rattle.format.specs.Reader.{Reader, Taken, startOf, skipped, spent, readOf, unaryOf, findOf, updateSecond, updateFirst, updateOf, runFound, runOf, bitLength}
 use Rattle.format.specs.Coefficients.{Signed, Four, Part, Stretch, zeros, stopped, signOf, fourOf, signsOf, widthNext, groupOf, widthAfter, zerosOf, rowStep, rowFrom, rowOf, rowsOf, codedRecord, recordOf, packetStopped, groupStopped, planeSum, tileSum, stoppedOf}
 use Rattle.format.specs.Counts.{firstStatus, recordStatus, goesBy, packetCount, groupCount, brokenOf, spentOf}
 use Rattle.format.proofs.TurnLaws.{both-none, sum-both}
 
--- ---- a status never goes back: it stays or rises, to 2 at most
-record Rises (r q : Reader) : Type 0 where
-  up : r .status ≤ 2 → (r .status ≤ q .status) × (q .status ≤ 2)
+-- ---- from one reader to a later one: the status stays or rises, to 2 at most; the place comes nearer to the end of the allowance, which stays
+pub record Moves (r q : Reader) : Type 0 where
+  pub up : r .status ≤ 2 → (r .status ≤ q .status) × (q .status ≤ 2)
+  pub left : q .remaining ≤ r .remaining
+  pub end : q .place + q .remaining ≡ r .place + r .remaining
 
-same : {r q : Reader} → q .status ≡ r .status → Rises r q
-same e = record { up = λ h. (omega arith, omega arith) }
+stays : {r : Reader} → Moves r r
+stays = record { up = λ h. (omega arith, omega arith); left = omega arith; end = refl }
 
-out : {r q : Reader} → q .status ≡ 2 → Rises r q
-out e = record { up = λ h. (omega arith, omega arith) }
+on : {r : Reader} (n : ℕ) → n ≤ r .remaining → Moves r (skipped r n)
+on n h = record { up = λ k. (omega arith, omega arith); left = omega arith; end = omega arith }
+
+out : {r : Reader} → Moves r (spent r)
+out = record { up = λ h. (omega arith, omega arith); left = omega arith; end = omega arith }
 
 infixr 20 _then_
-_then_ : {r q t : Reader} → Rises r q → Rises q t → Rises r t
+pub _then_ : {r q t : Reader} → Moves r q → Moves q t → Moves r t
 _then_ f g =
     record {
       up = λ h.
           let a = f .up h in
           let b = g .up (a .1) in
           (omega (arith, a .0, b .0), b .1);
+      left = omega (arith, f .left, g .left);
+      end = g .end ∙ f .end;
     }
 
 take-zeros : (n k : ℕ) → n ≤ k → take n (zeros k) ≡ zeros n
@@ -50,116 +57,120 @@ take-zeros n k h =
     ∙ take-at (zeros n) (zeros (k - n)) n (length-replicate n (pos 0))
 
 module _ (s : List ℕ) where
-  read-rises : (r : Reader) (n : ℕ) → Rises r (readOf s r n .reader)
+  read-moves : (r : Reader) (n : ℕ) → Moves r (readOf s r n .reader)
   unfolding readOf
-  read-rises r n = of-cond (λ (t : Taken). Rises r (t .reader)) (leb n (r .remaining)) _ _ (λ _. same refl) (λ _. out refl)
+  read-moves r n = of-cond (λ (t : Taken). Moves r (t .reader)) (leb n (r .remaining)) _ _ (λ h. on n (leb-true n (r .remaining) h)) (λ _. out)
 
-  unary-rises : (r : Reader) → Rises r (unaryOf s r .reader)
+  unary-moves : (r : Reader) → Moves r (unaryOf s r .reader)
   unfolding unaryOf
-  unary-rises r = of-cond (λ (t : Taken). Rises r (t .reader)) (ltb (zerosAt s (r .place) (r .remaining)) (r .remaining)) _ _ (λ _. same refl) (λ _. out refl)
+  unary-moves r =
+      let z = zerosAt s (r .place) (r .remaining) in
+      of-cond (λ (t : Taken). Moves r (t .reader)) (ltb z (r .remaining)) _ _ (λ h. on (z + 1) (omega (arith, ltb-true z (r .remaining) h))) (λ _. out)
 
-  find-rises : (r : Reader) (k : ℕ) → Rises r (findOf s r k .reader)
+  find-moves : (r : Reader) (k : ℕ) → Moves r (findOf s r k .reader)
   unfolding findOf
-  find-rises r k =
-      of-cond (λ (t : Taken). Rises r (t .reader)) (ltb (zerosAt s (r .place) (min k (r .remaining))) (min k (r .remaining))) _ _ (λ _. same refl)
-      (λ _. of-cond (Rises r) (leb k (r .remaining)) _ _ (λ _. same refl) (λ _. out refl))
+  find-moves r k =
+      let n = min k (r .remaining) in
+      let z = zerosAt s (r .place) n in
+      of-cond (λ (t : Taken). Moves r (t .reader)) (ltb z n) _ _ (λ h. on (z + 1) (omega (arith, ltb-true z n h)))
+      (λ _. of-cond (Moves r) (leb k (r .remaining)) _ _ (λ h. on k (leb-true k (r .remaining) h)) (λ _. out))
 
-  second-rises : (w : ℕ) (b : Taken) → Rises (b .reader) (updateSecond s w b .reader)
+  second-moves : (w : ℕ) (b : Taken) → Moves (b .reader) (updateSecond s w b .reader)
   unfolding updateSecond
-  second-rises w b =
-      of-cond (λ (t : Taken). Rises (b .reader) (t .reader)) (eqb (b .reader .status) 0) _ _
-      (λ _. of-cond (λ (t : Taken). Rises (b .reader) (t .reader)) (eqb (b .value) 0) _ _ (λ _. unary-rises (b .reader)) (λ _. find-rises (b .reader) _))
-      (λ _. same refl)
+  second-moves w b =
+      of-cond (λ (t : Taken). Moves (b .reader) (t .reader)) (eqb (b .reader .status) 0) _ _
+      (λ _. of-cond (λ (t : Taken). Moves (b .reader) (t .reader)) (eqb (b .value) 0) _ _ (λ _. unary-moves (b .reader)) (λ _. find-moves (b .reader) _))
+      (λ _. stays)
 
-  first-rises : (w : ℕ) (a : Taken) → Rises (a .reader) (updateFirst s w a .reader)
+  first-moves : (w : ℕ) (a : Taken) → Moves (a .reader) (updateFirst s w a .reader)
   unfolding updateFirst
-  first-rises w a =
-      of-cond (λ (t : Taken). Rises (a .reader) (t .reader)) (eqb (a .value) 0) _ _ (λ _. same refl)
+  first-moves w a =
+      of-cond (λ (t : Taken). Moves (a .reader) (t .reader)) (eqb (a .value) 0) _ _ (λ _. stays)
       (λ _.
-      of-cond (λ (t : Taken). Rises (a .reader) (t .reader)) (eqb (a .reader .status) 0) _ _
-      (λ _. read-rises (a .reader) 1 then second-rises w (readOf s (a .reader) 1))
-      (λ _. same refl))
+      of-cond (λ (t : Taken). Moves (a .reader) (t .reader)) (eqb (a .reader .status) 0) _ _
+      (λ _. read-moves (a .reader) 1 then second-moves w (readOf s (a .reader) 1))
+      (λ _. stays))
 
-  update-rises : (r : Reader) (w : ℕ) → Rises r (updateOf s r w .reader)
+  update-moves : (r : Reader) (w : ℕ) → Moves r (updateOf s r w .reader)
   unfolding updateOf
-  update-rises r w = read-rises r 1 then first-rises w (readOf s r 1)
+  update-moves r w = read-moves r 1 then first-moves w (readOf s r 1)
 
-  found-rises : (g : ℕ) (t : Taken) → Rises (t .reader) (runFound s g t .reader)
+  found-moves : (g : ℕ) (t : Taken) → Moves (t .reader) (runFound s g t .reader)
   unfolding runFound
-  found-rises g t =
-      of-cond (λ (u : Taken). Rises (t .reader) (u .reader)) (leb (bitLength (g - 1)) (t .value)) _ _ (λ _. same refl)
+  found-moves g t =
+      of-cond (λ (u : Taken). Moves (t .reader) (u .reader)) (leb (bitLength (g - 1)) (t .value)) _ _ (λ _. stays)
       (λ _.
-      of-cond (λ (u : Taken). Rises (t .reader) (u .reader)) (eqb (t .reader .status) 0) _ _
-      (λ _. of-cond (λ (u : Taken). Rises (t .reader) (u .reader)) (leb g (2 ^ t .value)) _ _ (λ _. same refl) (λ _. read-rises (t .reader) (t .value)))
-      (λ _. same refl))
+      of-cond (λ (u : Taken). Moves (t .reader) (u .reader)) (eqb (t .reader .status) 0) _ _
+      (λ _. of-cond (λ (u : Taken). Moves (t .reader) (u .reader)) (leb g (2 ^ t .value)) _ _ (λ _. stays) (λ _. read-moves (t .reader) (t .value)))
+      (λ _. stays))
 
-  run-rises : (r : Reader) (g : ℕ) → Rises r (runOf s r g .reader)
+  run-moves : (r : Reader) (g : ℕ) → Moves r (runOf s r g .reader)
   unfolding runOf
-  run-rises r g =
-      of-cond (λ (t : Taken). Rises r (t .reader)) (leb g 1) _ _ (λ _. same refl)
-      (λ _. find-rises r _ then found-rises g (findOf s r _))
+  run-moves r g =
+      of-cond (λ (t : Taken). Moves r (t .reader)) (leb g 1) _ _ (λ _. stays)
+      (λ _. find-moves r _ then found-moves g (findOf s r _))
 
-  sign-rises : (z : ℤ) (r : Reader) → Rises r (signOf s z r .reader)
+  sign-moves : (z : ℤ) (r : Reader) → Moves r (signOf s z r .reader)
   unfolding signOf
-  sign-rises z r = of-cond (λ (t : Signed). Rises r (t .reader)) (ltZ (pos 0) z) _ _ (λ _. read-rises r 1) (λ _. same refl)
+  sign-moves z r = of-cond (λ (t : Signed). Moves r (t .reader)) (ltZ (pos 0) z) _ _ (λ _. read-moves r 1) (λ _. stays)
 
-  four-rises : (r : Reader) (n : ℕ) → Rises r (fourOf s r n .reader)
+  four-moves : (r : Reader) (n : ℕ) → Moves r (fourOf s r n .reader)
   unfolding fourOf
-  four-rises r n = read-rises r n then read-rises _ n then read-rises _ n then read-rises _ n
+  four-moves r n = read-moves r n then read-moves _ n then read-moves _ n then read-moves _ n
 
-  signs-rise : (sel : ℕ) (q : Four) (r : Reader) → Rises r (signsOf s sel q r .reader)
+  signs-move : (sel : ℕ) (q : Four) (r : Reader) → Moves r (signsOf s sel q r .reader)
   unfolding signsOf
-  signs-rise sel q r = sign-rises _ r then sign-rises _ _ then sign-rises _ _ then sign-rises _ _
+  signs-move sel q r = sign-moves _ r then sign-moves _ _ then sign-moves _ _ then sign-moves _ _
 
-  next-rises : (g w : ℕ) (r : Reader) → Rises r (widthNext s g w r .reader)
+  next-moves : (g w : ℕ) (r : Reader) → Moves r (widthNext s g w r .reader)
   unfolding widthNext
-  next-rises g w r = of-cond (λ (t : Taken). Rises r (t .reader)) (leb g 1) _ _ (λ _. same refl) (λ _. update-rises r w)
+  next-moves g w r = of-cond (λ (t : Taken). Moves r (t .reader)) (leb g 1) _ _ (λ _. stays) (λ _. update-moves r w)
 
-  group-rises : (sel g : ℕ) (t : Taken) → Rises (t .reader) (groupOf s sel g t .reader)
+  group-moves : (sel g : ℕ) (t : Taken) → Moves (t .reader) (groupOf s sel g t .reader)
   unfolding groupOf
-  group-rises sel g t = four-rises (t .reader) (t .value) then next-rises g (t .value) _ then signs-rise sel _ _
+  group-moves sel g t = four-moves (t .reader) (t .value) then next-moves g (t .value) _ then signs-move sel _ _
 
-  after-rises : (left : ℕ) (r : Reader) → Rises r (widthAfter s left r .reader)
+  after-moves : (left : ℕ) (r : Reader) → Moves r (widthAfter s left r .reader)
   unfolding widthAfter
-  after-rises left r = of-cond (λ (t : Taken). Rises r (t .reader)) (eqb left 0) _ _ (λ _. same refl) (λ _. unary-rises r)
+  after-moves left r = of-cond (λ (t : Taken). Moves r (t .reader)) (eqb left 0) _ _ (λ _. stays) (λ _. unary-moves r)
 
-  zeros-rise : (g : ℕ) (r : Reader) → Rises r (zerosOf s g r .reader)
+  zeros-move : (g : ℕ) (r : Reader) → Moves r (zerosOf s g r .reader)
   unfolding zerosOf
-  zeros-rise g r = run-rises r g then after-rises _ _
+  zeros-move g r = run-moves r g then after-moves _ _
 
   -- ---- a row
-  step-rises : (rest : ℕ → Taken → Part) → ((g : ℕ) (t : Taken) → Rises (t .reader) (rest g t .reader))
-      → (sel g : ℕ) (t : Taken) → Rises (t .reader) (rowStep rest s sel g t .reader)
+  step-moves : (rest : ℕ → Taken → Part) → ((g : ℕ) (t : Taken) → Moves (t .reader) (rest g t .reader))
+      → (sel g : ℕ) (t : Taken) → Moves (t .reader) (rowStep rest s sel g t .reader)
   unfolding rowStep
-  step-rises rest onward sel g t =
-      of-cond (λ (p : Part). Rises r (p .reader)) (eqb g 0) _ _ (λ _. same refl)
+  step-moves rest onward sel g t =
+      of-cond (λ (p : Part). Moves r (p .reader)) (eqb g 0) _ _ (λ _. stays)
       (λ _.
-      of-cond (λ (p : Part). Rises r (p .reader)) (eqb (r .status) 0) _ _
+      of-cond (λ (p : Part). Moves r (p .reader)) (eqb (r .status) 0) _ _
       (λ _.
-      of-cond (λ (p : Part). Rises r (p .reader)) (leb (t .value) 19) _ _
+      of-cond (λ (p : Part). Moves r (p .reader)) (leb (t .value) 19) _ _
       (λ _.
-      of-cond (λ (p : Part). Rises r (p .reader)) (eqb (t .value) 0) _ _
-      (λ _. zeros-rise g r then onward _ _)
-      (λ _. group-rises sel g t then onward _ _))
+      of-cond (λ (p : Part). Moves r (p .reader)) (eqb (t .value) 0) _ _
+      (λ _. zeros-move g r then onward _ _)
+      (λ _. group-moves sel g t then onward _ _))
       (λ _. stop))
       (λ _. stop))
     where
       r : Reader
       r = t .reader
 
-      stop : Rises r (stopped r)
+      stop : Moves r (stopped r)
       stop =
-          of-cond (λ (n : ℕ). Rises r (record { place = r .place; remaining = r .remaining; status = n })) (eqb (r .status) 0) 1 (r .status)
-          (λ z. record { up = λ h. (omega (arith, eqb-true (r .status) 0 z), omega arith) }) (λ _. same refl)
+          of-cond (λ (n : ℕ). Moves r (record { place = r .place; remaining = r .remaining; status = n })) (eqb (r .status) 0) 1 (r .status)
+          (λ z. record { up = λ h. (omega (arith, eqb-true (r .status) 0 z), omega arith); left = omega arith; end = refl }) (λ _. stays)
 
-  from-rises : (sel turns g : ℕ) (t : Taken) → Rises (t .reader) (rowFrom s sel turns g t .reader)
+  from-moves : (sel turns g : ℕ) (t : Taken) → Moves (t .reader) (rowFrom s sel turns g t .reader)
   unfolding rowFrom
-  from-rises sel zero g t = same refl
-  from-rises sel (suc turns) g t = step-rises (rowFrom s sel turns) (from-rises sel turns) sel g t
+  from-moves sel zero g t = stays
+  from-moves sel (suc turns) g t = step-moves (rowFrom s sel turns) (from-moves sel turns) sel g t
 
-  row-rises : (sel n : ℕ) (r : Reader) → Rises r (rowOf s sel n r .reader)
+  pub row-moves : (sel n : ℕ) (r : Reader) → Moves r (rowOf s sel n r .reader)
   unfolding rowOf
-  row-rises sel n r = update-rises r 0 then from-rises sel _ _ _
+  row-moves sel n r = update-moves r 0 then from-moves sel _ _ _
 
   -- after the row's opening update a status that is set stays to the row's end
   pub row-keeps : (sel turns g : ℕ) (t : Taken) → (t .reader .status ≡ 0 → ⊥) → rowFrom s sel turns g t .reader .status ≡ t .reader .status
@@ -177,7 +188,7 @@ module _ (s : List ℕ) where
   row-zeros : (sel n : ℕ) (r : Reader) → r .status ≤ 2 → (r .status ≡ 0 → ⊥) → rowOf s sel n r .values ≡ zeros n
   unfolding rowOf
   row-zeros sel n r low set =
-      let up = update-rises r 0 .up low in
+      let up = update-moves r 0 .up low in
       ap (take n) (from-zeros sel ((n + 3) / 4) (updateOf s r 0) (λ e. set (omega (arith, up .0, e))))
       ∙ take-zeros n (4 * ((n + 3) / 4)) (omega arith)
 
@@ -189,7 +200,7 @@ module _ (s : List ℕ) (sel : ℕ → ℕ) (m cols : ℕ) where
   rows-zeros zero k r low set = ap zeros (sym (zero-mul cols))
   rows-zeros (suc n) k r low set =
       let row = rowOf s (sel (k / m)) cols r .reader in
-      let up = row-rises s (sel (k / m)) cols r .up low in
+      let up = row-moves s (sel (k / m)) cols r .up low in
       let rest = rows-zeros n (suc k) row (up .1) (λ e. set (omega (arith, up .0, e))) in
       (λ j. row-zeros s (sel (k / m)) cols r low set j ++ rest j)
       ∙ replicate-append-replicate cols (n * cols) (pos 0)
@@ -209,13 +220,13 @@ module _ (s : List ℕ) (sel : ℕ → ℕ) (m cols : ℕ) where
     abbrev pub after : ℕ → Reader
     after n = rowsOf s sel m cols n 0 r .reader
 
-    rows-rise : (n : ℕ) → Rises (after n) (after (suc n))
-    rows-rise n = rw (rows-on n 0 r) (row-rises s (sel ((0 + n) / m)) cols (after n))
+    pub rows-move : (n : ℕ) → Moves (after n) (after (suc n))
+    rows-move n = rw (rows-on n 0 r) (row-moves s (sel ((0 + n) / m)) cols (after n))
 
     pub after-low : (n : ℕ) → after n .status ≤ 2
     unfolding rowsOf
     after-low zero = omega arith
-    after-low (suc n) = rows-rise n .up (after-low n) .1
+    after-low (suc n) = rows-move n .up (after-low n) .1
 
     -- what a record goes by is 2 at most, and 0 where its status at the end is 0, and there alone
     first-low : (n : ℕ) → firstStatus s sel m cols n r ≤ 2
@@ -231,7 +242,7 @@ module _ (s : List ℕ) (sel : ℕ → ℕ) (m cols : ℕ) where
     unfolding firstStatus each
     first-none zero e = refl
     first-none (suc n) e =
-        let before = first-none n (omega (arith, rows-rise n .up (after-low n) .0)) in
+        let before = first-none n (omega (arith, rows-move n .up (after-low n) .0)) in
         rw (before, add-one n) e
 
     first-all : (n : ℕ) → firstStatus s sel m cols n r ≡ 0 → after n .status ≡ 0

@@ -12,7 +12,7 @@ use Rattle.wrap32.specs.Arithmetic.{wrapping}
 use Rattle.wrap32.specs.Edge.{eqZ, edgeDetail}
 use Rattle.lists.specs.Lists.{tab, rows}
 use Rattle.format.specs.Lifting.{Signal, Plane}
-use Rattle.format.specs.Sizes.{Colour, green, red, blue, Level, l1, l2, l3, Group, base, detail, final, stripes, guarded, multiplier, components, columns, planeRows, workLength}
+use Rattle.format.specs.Sizes.{Colour, green, red, blue, Level, l1, l2, l3, Group, base, detail, final, stripes, guarded, multiplier, components, columns, planeRows, workLength, numbered, indexed}
 use Rattle.format.specs.Table.{height, highs, Source, S, E, Band, hl, lh, hh, source, bandRows, mode}
 use Rattle.format.specs.Packets.{sum}
 use Rattle.format.specs.Refusals.{_▷_, on, each, largeRefusal, shortRefusal}
@@ -117,19 +117,7 @@ units k b = (length b + (k - 1)) / k
 unfoldable pub filled : ℕ → List ℕ → List ℕ
 filled k b = b ++ zeroBits (units k b * k - length b)
 
--- the group of a number and the colour of an index; groups 0 to 3 have three packets each and group 4 one
-abbrev pub groupAt : ℕ → Group
-groupAt zero = base
-groupAt (suc zero) = detail l1
-groupAt (suc (suc zero)) = detail l2
-groupAt (suc (suc (suc zero))) = detail l3
-groupAt (suc (suc (suc (suc k)))) = final
-
-abbrev pub colourAt : ℕ → Colour
-colourAt zero = green
-colourAt (suc zero) = red
-colourAt (suc (suc k)) = blue
-
+-- groups 0 to 3 have three packets each and group 4 one
 abbrev pub entries : Group → ℕ
 entries base = 3
 entries (detail l) = 3
@@ -154,6 +142,10 @@ module _ (w H : ℕ) (v : Coefs) where
   abbrev pub recordBytes : Group → Colour → ℕ → ℕ
   recordBytes g i k = units 8 (recordBits (v g i) (multiplier g) (columns w g) (components g * multiplier g) k)
 
+  -- and the bits of the packet's records, before they are filled up
+  abbrev pub recordsBits : Group → Colour → ℕ
+  recordsBits g i = sum (λ k. length (recordBits (v g i) (multiplier g) (columns w g) (components g * multiplier g) k)) (records H)
+
   unfoldable pub recordHead : Group → Colour → ℕ → List ℕ
   recordHead g i k = numberBits 16 (recordBytes g i k) ++ zeroBits (4 * components g)
 
@@ -176,17 +168,17 @@ module _ (w H : ℕ) (v : Coefs) where
 
   -- ---- a group: its packets, and its size, the sum of theirs
   unfoldable pub groupBits : ℕ → List ℕ
-  groupBits g = rows (entries (groupAt g)) (λ k. packetBits (groupAt g) (colourAt k))
+  groupBits g = rows (entries (numbered g)) (λ k. packetBits (numbered g) (indexed k))
 
   unfoldable pub groupUnits : ℕ → ℕ
-  groupUnits g = sum (λ k. packetUnits (groupAt g) (colourAt k)) (entries (groupAt g))
+  groupUnits g = sum (λ k. packetUnits (numbered g) (indexed k)) (entries (numbered g))
 
   -- ---- the directory: a block of 16 bytes for each group, the entry count in the low four bits of its first byte, then five lengths
   unfoldable pub entryUnits : ℕ → ℕ → ℕ
-  entryUnits g k = cond (ltb k (entries (groupAt g))) (packetUnits (groupAt g) (colourAt k)) 0
+  entryUnits g k = cond (ltb k (entries (numbered g))) (packetUnits (numbered g) (indexed k)) 0
 
   unfoldable pub blockBits : ℕ → List ℕ
-  blockBits g = zeroBits 4 ++ (numberBits 4 (entries (groupAt g)) ++ rows 5 (λ k. numberBits 24 (entryUnits g k)))
+  blockBits g = zeroBits 4 ++ (numberBits 4 (entries (numbered g)) ++ rows 5 (λ k. numberBits 24 (entryUnits g k)))
 
   -- ---- the header: "A000", w at 8, half height at 10; at 12, bits 4 to 9 equal 16; at 14, top three bits 3 and bits 10 and 11 both set; the
   -- group sizes at 16, and zeros up to 48
@@ -263,7 +255,7 @@ module _ (g : Bool) (n w : ℕ) where
 -- ---- 26: a record above 65,535 bytes, a group above 268,435,440
 unfoldable pub lengthsRefusal : ℕ → ℕ → Coefs → ℕ
 lengthsRefusal w H v =
-    each (λ g. each (λ k. each (λ r. on (ltb 65535 (recordBytes w H v (groupAt g) (colourAt k) r)) 26) (records H)) (entries (groupAt g))) 5
+    each (λ g. each (λ k. each (λ r. on (ltb 65535 (recordBytes w H v (numbered g) (indexed k) r)) 26) (records H)) (entries (numbered g))) 5
     ▷ each (λ g. on (ltb 268435440 (16 * groupUnits w H v g)) 26) 5
 
 -- ---- the refusals of a call, in order: before anything is changed; and after the work slice is used
