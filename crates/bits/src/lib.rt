@@ -3,7 +3,7 @@ ghost use mathlib.Core.Path.{_≡_};
 ghost use Prim.Native.Nat.{_+_, _/_, _^_, _<_, _≤_};
 ghost use lib.ListN.{length};
 ghost use Rattle.format.specs.Bits.{bitsAt, zerosAt};
-ghost use Rattle.format.specs.Reader.{startOf, skipped, spent, readOf, unaryOf, findOf, updateSecond, updateOf, runOf, bitLength};
+ghost use Rattle.format.specs.Reader.{allowance, startOf, skipped, spent, readOf, unaryOf, findOf, updateSecond, updateOf, runOf, bitLength};
 ghost use Rattle.format.specs.Coefficients.{fourOf};
 ghost use Rattle.bits.specs.View.{asReader, asTaken, asFour, Ready, ReadyBelow, ReadyBelowFour, changeOf};
 use words::least;
@@ -98,6 +98,14 @@ pub fn changed(word: u64, width: u64) -> Change
     }
 }
 
+// The allowance of a byte length, in bits.
+pub fn allowance(bytes: u64) -> u64
+    requires { ⌜ bytes < 2 ^ 36 ⌝ }
+    ensures { λ r. ⌜ r ≡ allowance bytes ⌝ }
+{
+    (bytes + 15) / 16 * 128
+}
+
 impl BitReader {
     // A reader at a place, with a word of the bits from there.
     fn at(packet: &[u8], place: u64, remaining: u64, status: u64) -> BitReader
@@ -119,7 +127,7 @@ impl BitReader {
         ensures { λ r. ⌜ asReader r ≡ startOf offset bytes ⌝ }
         ensures { λ r. ⌜ Ready (now (packet .entry)) r ⌝ }
     {
-        BitReader::at(packet, offset * 8, (bytes + 15) / 16 * 128, 0)
+        BitReader::at(packet, offset * 8, allowance(bytes), 0)
     }
 
     // Past n bits.

@@ -6,6 +6,7 @@ use lib.ListN.{length}
 use lib.Dec.{leb, ltb, eqb}
 use Rattle.format.specs.Packets.{kind, blocks}
 use Rattle.format.specs.Counts.{packetCount}
+use Rattle.format.specs.Used.{packetUsed}
 use Rattle.coefficients.specs.declared.PacketCounts.{PacketCounts}
 
 -- whether a packet has its header and at most n records, n records of m rows for each component fill a band of a size, and the sizes are small
@@ -16,5 +17,5 @@ together p m cols n size =
 -- the counts of a packet that goes together with sizes and band; else every field 0
 abbrev pub answerOf : Bool → List ℕ → ℕ → ℕ → PacketCounts
 answerOf fits p m cols =
-    cond fits (record { together = 1; broken = packetCount 1 p m cols; spent = packetCount 2 p m cols })
-    (record { together = 0; broken = 0; spent = 0 })
+    cond fits (record { together = 1; broken = packetCount 1 p m cols; spent = packetCount 2 p m cols; bits = packetUsed p m cols })
+    (record { together = 0; broken = 0; spent = 0; bits = 0 })

@@ -33,12 +33,14 @@ fn fits(packet: &[u8], m: usize, cols: usize, n: usize, size: usize) -> bool
     size == n * (kind(packet) * m * cols)
 }
 
-// Whether packet, sizes and band go together, 1 or 0, and how many records of the packet are broken and spent.
+// Whether packet, sizes and band go together, 1 or 0, how many records of the packet are broken and spent, and the bits
+// that they took.
 #[repr(C)]
 pub struct PacketCounts {
     pub together: u64,
     pub broken: u64,
     pub spent: u64,
+    pub bits: u64,
 }
 
 // The coefficients of a packet of n records, those that are missing with them, into a band of their size, with the counts; all fields 0, with
@@ -59,6 +61,7 @@ pub extern "C" fn arw6_packet(
             together: 0,
             broken: 0,
             spent: 0,
+            bits: 0,
         };
     }
     let counts = decode_packet(packet, m, cols, n, band);
@@ -66,5 +69,6 @@ pub extern "C" fn arw6_packet(
         together: 1,
         broken: counts.broken,
         spent: counts.spent,
+        bits: counts.bits,
     }
 }

@@ -4,7 +4,7 @@ ghost use mathlib.Core.Path.{_≡_};
 ghost use mathlib.Core.Bool.{true};
 ghost use Prim.Native.Nat.{_*_, _^_, _<_, _≤_};
 ghost use lib.ListN.{length};
-ghost use Rattle.format.specs.Sizes.{green, red, stripes, guarded, planeRows, planeRowsOf, planeColumns, workLength};
+ghost use Rattle.format.specs.Sizes.{green, red, numbered, components, multiplier, columns, stripes, guarded, planeRows, planeRowsOf, planeColumns, workLength};
 ghost use Rattle.format.specs.Strip.{width, halfHeight, codedHeight, groupSize};
 ghost use Rattle.format.specs.Packets.{control, extra, tag, zero4, kind, zero6, blocks, marker, zero8, padding, sizeOf, recordBit, recordLength, payloadAt};
 use words::field;
@@ -151,6 +151,45 @@ pub fn first_payload(packet: &[u8]) -> usize
     ensures { λ r. ⌜ (r ≡ payloadAt (now (packet .entry)) 0) × (r ≤ 2 ^ 20) ⌝ }
 {
     (control(packet) + 1) * 16
+}
+
+// The components of group g.
+pub fn components(g: usize) -> usize
+    ensures { λ r. ⌜ (r ≡ components (numbered g)) × (r ≤ 3) ⌝ }
+{
+    match g {
+        0 => 1,
+        1 => 3,
+        2 => 3,
+        3 => 3,
+        _ => 1,
+    }
+}
+
+// m: the rows of each component in a record of group g.
+pub fn multiplier(g: usize) -> usize
+    ensures { λ r. ⌜ (r ≡ multiplier (numbered g)) × (r ≤ 8) ⌝ }
+{
+    match g {
+        0 => 1,
+        1 => 1,
+        2 => 2,
+        3 => 4,
+        _ => 8,
+    }
+}
+
+// The columns of group g in a tile of width w.
+pub fn columns(w: usize, g: usize) -> usize
+    ensures { λ r. ⌜ (r ≡ columns w (numbered g)) × (r ≤ w) ⌝ }
+{
+    match g {
+        0 => w / 16,
+        1 => w / 16,
+        2 => w / 8,
+        3 => w / 4,
+        _ => w / 2,
+    }
 }
 
 // n: the height by 16, rounded up.

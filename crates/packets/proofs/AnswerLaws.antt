@@ -1,4 +1,4 @@
--- Laws of the code's answers: groups and colours by number, entries, the answer of the check. Assumes nothing.
+-- Laws of the code's answers: groups by number, entries, the answer of the check. Assumes nothing.
 use mathlib.Core.Path.{_≡_, refl, sym, ap, _∙_}
 use mathlib.Core.List.{List}
 use mathlib.Core.Bool.{Bool, true, false, not}
@@ -7,38 +7,25 @@ use native.Mathlib.Omega.{arith}
 use lib.ListN.{length}
 use lib.Dec.{leb, eqb}
 use borrow.Author.Tests.{lt-leb, eqb-true}
-use Rattle.format.specs.Sizes.{number, index}
+use Rattle.format.specs.Sizes.{numbered}
 use Rattle.format.specs.Strip.{width, codedHeight}
 use Rattle.format.specs.Packets.{hasEntry, packetOf, kind, blocks, packetStart, packetLength}
 use Rattle.format.specs.Refusals.{_▷_, on, isDetail, directoryRefusal, tileRefusal, entryCheck, packetRefusal, refusal}
 use Rattle.packets.specs.declared.Checked.{Checked}
 use Rattle.format.specs.Accepted.{Accepted}
 use Rattle.format.proofs.Accepted.{accepted}
-use Rattle.packets.specs.Answers.{groupOf, colourOf, entryNumber, checkedOf}
+use Rattle.packets.specs.Answers.{entryNumber, checkedOf}
 use Rattle.packets.specs.declared.directory.DirEntry.{DirEntry}
 use Rattle.format.proofs.DirectoryLaws.{inside}
+use Rattle.format.proofs.Numbered.{number-of}
 use Rattle.format.proofs.TurnLaws.{on-not}
 
--- the number of the group of a number
-pub number-of : (g : ℕ) → g < 5 → number (groupOf g) ≡ g
-number-of zero h = refl
-number-of (suc zero) h = refl
-number-of (suc (suc zero)) h = refl
-number-of (suc (suc (suc zero))) h = refl
-number-of (suc (suc (suc (suc zero)))) h = refl
-number-of (suc (suc (suc (suc (suc g))))) h = absurd (omega arith)
-
-pub index-of : (i : ℕ) → i < 3 → index (colourOf i) ≡ i
-index-of zero h = refl
-index-of (suc zero) h = refl
-index-of (suc (suc zero)) h = refl
-index-of (suc (suc (suc i))) h = absurd (omega arith)
-
-pub detail-below : (g : ℕ) → g < 1 → isDetail (groupOf g) ≡ false
+-- groups 1 to 3, by number
+pub detail-below : (g : ℕ) → g < 1 → isDetail (numbered g) ≡ false
 detail-below zero h = refl
 detail-below (suc g) h = absurd (omega arith)
 
-pub detail-up : (g : ℕ) → 1 ≤ g → leb g 3 ≡ isDetail (groupOf g)
+pub detail-up : (g : ℕ) → 1 ≤ g → leb g 3 ≡ isDetail (numbered g)
 detail-up zero h = absurd (omega arith)
 detail-up (suc zero) h = refl
 detail-up (suc (suc zero)) h = refl
@@ -50,8 +37,8 @@ detail-up (suc (suc (suc (suc g)))) h = lt-leb (suc (suc (suc (suc g)))) 3 (omeg
 module _ (s : List ℕ) (g k : ℕ) (r : DirEntry) (is : entryNumber r ≡ on (not (hasEntry s g k)) 9) where
   -- the check of an entry, by the answer of the lookup
   pub entry-check : g < 5
-      → entryCheck s (groupOf g) k
-      ≡ (entryNumber r ▷ packetRefusal (packetOf s g k) ▷ tileRefusal (kind (packetOf s g k)) (blocks (packetOf s g k)) (groupOf g) (codedHeight s) (length s))
+      → entryCheck s (numbered g) k
+      ≡ (entryNumber r ▷ packetRefusal (packetOf s g k) ▷ tileRefusal (kind (packetOf s g k)) (blocks (packetOf s g k)) (numbered g) (codedHeight s) (length s))
   unfolding entryCheck
   entry-check h = rw (number-of g h, is) refl
 

@@ -1,9 +1,8 @@
 -- What the code's answers are by document 01, case by case.
 use mathlib.Core.List.{List}
 use mathlib.Core.Bool.{Bool, true, false, cond, _||_}
-use Prim.Native.Nat.{ℕ, zero, suc}
+use Prim.Native.Nat.{ℕ}
 use lib.Dec.{ltb}
-use Rattle.format.specs.Sizes.{Colour, green, red, blue, l1, l2, l3, Group, base, detail, final}
 use Rattle.format.specs.Strip.{width, codedHeight}
 use Rattle.format.specs.Packets.{hasEntry}
 use Rattle.format.specs.Refusals.{on}
@@ -13,19 +12,6 @@ use Rattle.packets.specs.declared.Lengths.{Lengths}
 use Rattle.packets.specs.declared.Checked.{Checked}
 use Rattle.packets.specs.declared.directory.DirEntry.{DirEntry}
 use Rattle.packets.specs.declared.directory.DirEntry.the-variants.{Present, Missing}
-
--- the group and the colour of a number
-abbrev pub groupOf : ℕ → Group
-groupOf zero = base
-groupOf (suc zero) = detail l1
-groupOf (suc (suc zero)) = detail l2
-groupOf (suc (suc (suc zero))) = detail l3
-groupOf (suc (suc (suc (suc n)))) = final
-
-abbrev pub colourOf : ℕ → Colour
-colourOf zero = green
-colourOf (suc zero) = red
-colourOf (suc (suc n)) = blue
 
 -- whether group g has an entry k
 abbrev pub entered : Bool → DirEntry

@@ -4,10 +4,12 @@ ghost use mathlib.Core.Bool.{not, _&&_};
 ghost use Prim.Native.Nat.{_+_, _^_, _<_, _≤_};
 ghost use lib.ListN.{length};
 ghost use lib.Dec.{eqb};
+ghost use Rattle.format.specs.Sizes.{numbered, indexed, packetGroup, packetIndex};
 ghost use Rattle.format.specs.Packets.{packetStart, packetLength, packetOf};
-ghost use Rattle.format.specs.Refusals.{isDetail, wrongCount, tileRefusal, largeRefusal, directoryRefusal, entryCheck, planeRefusal, packetsRefusal, refusal};
+ghost use Rattle.format.specs.Refusals.{_▷_, isDetail, wrongCount, tileRefusal, largeRefusal, directoryRefusal, entryCheck, planeRefusal, packetsRefusal, refusal};
+ghost use Rattle.format.specs.Used.{streamRefusal};
 ghost use Rattle.format.specs.Tile.{lengthsBy, lengthsOf};
-ghost use Rattle.packets.specs.Answers.{groupOf, colourOf, codeLengths, shortOf, checkedOf};
+ghost use Rattle.packets.specs.Answers.{codeLengths, shortOf, checkedOf};
 use fields::blocks;
 use fields::coded_height;
 use fields::colour_size;
@@ -58,9 +60,23 @@ pub fn packet(stream: &[u8], group: usize, index: usize) -> &[u8]
     &stream[start..end]
 }
 
+// The group of packet p, of 13 in the order of document 01's checks: groups 0 to 3 of green, of red, of blue, then group 4.
+pub fn group_of(p: usize) -> usize
+    ensures { λ g. ⌜ g ≡ packetGroup p ⌝ }
+{
+    if p < 12 { p % 4 } else { 4 }
+}
+
+// Its index.
+pub fn index_of(p: usize) -> usize
+    ensures { λ k. ⌜ k ≡ packetIndex p ⌝ }
+{
+    if p < 12 { p / 4 } else { 0 }
+}
+
 // Groups 1 to 3.
 fn is_detail(group: usize) -> bool
-    ensures { λ r. ⌜ r ≡ isDetail (groupOf group) ⌝ }
+    ensures { λ r. ⌜ r ≡ isDetail (numbered group) ⌝ }
 {
     if group < 1 {
         return false;
@@ -70,7 +86,7 @@ fn is_detail(group: usize) -> bool
 
 // Kind 3 in group 0 or 4.
 fn three_outside_detail(kind: usize, group: usize) -> bool
-    ensures { λ r. ⌜ r ≡ (eqb kind 3 && not (isDetail (groupOf group))) ⌝ }
+    ensures { λ r. ⌜ r ≡ (eqb kind 3 && not (isDetail (numbered group))) ⌝ }
 {
     if kind != 3 {
         return false;
@@ -80,7 +96,7 @@ fn three_outside_detail(kind: usize, group: usize) -> bool
 
 // Kind 1 in groups 1 to 3.
 fn one_in_detail(kind: usize, group: usize) -> bool
-    ensures { λ r. ⌜ r ≡ (eqb kind 1 && isDetail (groupOf group)) ⌝ }
+    ensures { λ r. ⌜ r ≡ (eqb kind 1 && isDetail (numbered group)) ⌝ }
 {
     if kind != 1 {
         return false;
@@ -106,7 +122,7 @@ fn wrong_count(height: usize, count: usize) -> bool
 // A packet of a kind and a block count in its tile: the group, the coded height, the length of the stream.
 fn check_in_tile(kind: usize, count: usize, group: usize, height: usize, n: usize) -> u32
     requires { ⌜ height < 2 ^ 17 ⌝ }
-    ensures { λ r. ⌜ r ≡ tileRefusal kind count (groupOf group) height n ⌝ }
+    ensures { λ r. ⌜ r ≡ tileRefusal kind count (numbered group) height n ⌝ }
 {
     if three_outside_detail(kind, group) {
         return 19;
@@ -129,7 +145,7 @@ fn check_in_tile(kind: usize, count: usize, group: usize, height: usize, n: usiz
 // The entry of an index in a group, and its packet.
 fn check_entry(stream: &[u8], group: usize, index: usize) -> u32
     requires { ⌜ (128 ≤ length (now stream)) × (group < 5) × (index < 16) × (directoryRefusal (now stream) ≡ 0) ⌝ }
-    ensures { λ r. ⌜ r ≡ entryCheck (now (stream .entry)) (groupOf group) index ⌝ }
+    ensures { λ r. ⌜ r ≡ entryCheck (now (stream .entry)) (numbered group) index ⌝ }
 {
     let directory::DirEntry::Present = directory::find_entry(stream, group, index) else {
         return 9;
@@ -151,7 +167,7 @@ fn check_entry(stream: &[u8], group: usize, index: usize) -> u32
 // The plane of an index: groups 0 to 3.
 fn check_plane(stream: &[u8], i: usize) -> u32
     requires { ⌜ (128 ≤ length (now stream)) × (i < 3) × (directoryRefusal (now stream) ≡ 0) ⌝ }
-    ensures { λ r. ⌜ r ≡ planeRefusal (now (stream .entry)) (colourOf i) ⌝ }
+    ensures { λ r. ⌜ r ≡ planeRefusal (now (stream .entry)) (indexed i) ⌝ }
 {
     let a = check_entry(stream, 0, i);
     if a != 0 {
@@ -189,6 +205,28 @@ fn check_packets(stream: &[u8]) -> u32
         return blue;
     }
     check_entry(stream, 4, 0)
+}
+
+// The checks after the header and the size: directory, then packets.
+fn check_rest(stream: &[u8]) -> u32
+    requires { ⌜ 128 ≤ length (now stream) ⌝ }
+    ensures { λ r. ⌜ r ≡ (directoryRefusal (now (stream .entry)) ▷ packetsRefusal (now (stream .entry))) ⌝ }
+{
+    let bad = directory::parse_directory(stream);
+    if bad != 0 {
+        return bad;
+    }
+    check_packets(stream)
+}
+
+// The checks of a stream's own bytes, whatever its size and whatever is lent.
+pub fn check_stream(stream: &[u8]) -> u32
+    ensures { λ r. ⌜ r ≡ streamRefusal (now (stream .entry)) ⌝ }
+{
+    let StreamHeader::Valid(_) = parse_stream_header(stream) else {
+        return 2;
+    };
+    check_rest(stream)
 }
 
 // A refusal with every other field 0.
@@ -272,11 +310,7 @@ fn first_refusal(stream: &[u8], green: usize, red: usize, blue: usize, work: usi
     if a != 0 {
         return a;
     }
-    let b = directory::parse_directory(stream);
-    if b != 0 {
-        return b;
-    }
-    check_packets(stream)
+    check_rest(stream)
 }
 
 // All checks of a stream, with the lengths of the lent slices.

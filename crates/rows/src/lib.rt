@@ -8,6 +8,7 @@ ghost use lib.Signed.{ltZ};
 ghost use lib.Dec.{eqb};
 ghost use lib.ListN.{length, set};
 ghost use Rattle.format.specs.Coefficients.{valueOf, signOf, signsOf, widthAfter, widthNext, groupOf, zerosOf, zeros, stopped, rowOf};
+ghost use Rattle.format.specs.Used.{rowUsed};
 ghost use Rattle.bits.specs.View.{asReader, asTaken, asFour, Ready};
 ghost use Rattle.rows.specs.View.{asSigned, asSignedFour, asGroup, asRun};
 ghost use Rattle.rows.specs.Word.{signBitOf, nonzeroOf, signedOf, quadOf, storeQuad, levelOf, Tables, Near, Ends, Runs, stepOf};
@@ -805,13 +806,8 @@ fn halts(reader: BitReader, width: u64) -> bool
     19 < width
 }
 
-// One row of coefficients, as many as the slice has elements.
-pub fn decode_component(
-    reader: BitReader,
-    packet: &[u8],
-    dst: &mut [i32],
-    selector: u64,
-) -> BitReader
+// One row of coefficients, as many as the slice has elements: the reader after it.
+fn decode_row(reader: BitReader, packet: &[u8], dst: &mut [i32], selector: u64) -> BitReader
     requires { ⌜ Ready (now packet) reader ⌝ }
     requires { ⌜ (selector < 16) × (length (now dst) < 2 ^ 32) ⌝ }
     ensures { λ r. ⌜ asReader r ≡ rowOf (now (packet .entry)) selector (length (now (dst .entry))) (asReader reader) .reader ⌝ }
@@ -845,4 +841,31 @@ pub fn decode_component(
         }
     }
     r
+}
+
+// The bits that a row took from the allowance, and the reader after it.
+pub struct RowAnswer {
+    pub bits: u64,
+    pub reader: BitReader,
+}
+
+// One row of coefficients, and what it took.
+pub fn decode_component(
+    reader: BitReader,
+    packet: &[u8],
+    dst: &mut [i32],
+    selector: u64,
+) -> RowAnswer
+    requires { ⌜ Ready (now packet) reader ⌝ }
+    requires { ⌜ (selector < 16) × (length (now dst) < 2 ^ 32) ⌝ }
+    ensures { λ r. ⌜ r .bits ≡ rowUsed (now (packet .entry)) selector (length (now (dst .entry))) (asReader reader) ⌝ }
+    ensures { λ r. ⌜ asReader (r .reader) ≡ rowOf (now (packet .entry)) selector (length (now (dst .entry))) (asReader reader) .reader ⌝ }
+    ensures { λ r. ⌜ now (dst .exit) ≡ rowOf (now (packet .entry)) selector (length (now (dst .entry))) (asReader reader) .values ⌝ }
+    ensures { λ r. ⌜ Ready (now (packet .entry)) (r .reader) ⌝ }
+{
+    let after = decode_row(reader, packet, dst, selector);
+    RowAnswer {
+        bits: less(reader.remaining, after.remaining),
+        reader: after,
+    }
 }

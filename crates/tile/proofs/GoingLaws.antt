@@ -15,11 +15,10 @@ use Rattle.lists.proofs.Rows.{length-rows, rows-same}
 use Rattle.lists.proofs.Tab.{length-tab}
 use Rattle.format.specs.Coefficients.{coefs}
 use Rattle.format.specs.Lifting.{Plane}
-use Rattle.format.specs.Sizes.{Colour, green, red, blue, Level, l1, l2, l3, Group, base, detail, final, number, multiplier, components, columns, planeRows}
+use Rattle.format.specs.Sizes.{numbered, indexed, groupIn, colourIn, Colour, green, red, blue, Level, l1, l2, l3, Group, base, detail, final, number, multiplier, components, columns, planeRows}
 use Rattle.format.specs.Synthesis.{outcome, bothGreens, flat, planes}
 use Rattle.format.specs.Table.{chosen}
 use Rattle.format.proofs.TableLaws.{chosen-in}
-use Rattle.packets.specs.Answers.{groupOf, colourOf}
 use Rattle.passes.specs.declared.Plan.{Plan}
 use Rattle.passes.specs.Plan.{line, unitOf, finalUnits, Fits}
 use Rattle.passes.proofs.PlaceLaws.{place-is}
@@ -28,12 +27,12 @@ use Rattle.levels.specs.Placed.{rowIn}
 use Rattle.levels.specs.Block.{stood, recordSize, recordLines, Stood, groupAt, Records, Lowered, Outcomes, Averaged}
 use Rattle.levels.proofs.Blocks.{group-room}
 use Rattle.levels.proofs.Stood.{stood-row}
-use Rattle.tile.specs.Packets.{groupIn, colourIn, Measured, packetLaid}
+use Rattle.tile.specs.Packets.{Measured, packetLaid}
 use Rattle.tile.specs.Going.{decodedPlane, averagesAt, passingAt, Going}
-use Rattle.tile.proofs.Numbers.{group-number}
+use Rattle.format.proofs.Numbered.{group-number}
 
 -- the ring of one group ends where that of a later one starts, or before
-rings-apart : (z : Plan) → z .w % 16 ≡ 0 → (m : Group) (k : ℕ) → number m < k → k < 4 → groupAt z 0 m + z .slots * recordSize (z .w) m ≤ groupAt z 0 (groupOf k)
+rings-apart : (z : Plan) → z .w % 16 ≡ 0 → (m : Group) (k : ℕ) → number m < k → k < 4 → groupAt z 0 m + z .slots * recordSize (z .w) m ≤ groupAt z 0 (numbered k)
 rings-apart z w m zero a b = absurd (omega arith)
 rings-apart z w base (suc zero) a b = omega arith
 rings-apart z w (detail l1) (suc zero) a b = absurd (omega arith)
@@ -87,7 +86,7 @@ module _ (s : List ℕ) (z : Plan) (fits : Fits z 0) where
     beside : (a k : ℕ) → Apart a k at (z .slots * n) → part after a k ≡ part work a k
     beside a k o = ap (λ (l : List ℤ). part l a k) e ∙ rung-out at n (z .slots) f each (fits .1 .some) work fit i count a k o
 
-    group-is : p < 12 → at ≡ groupAt z 0 (groupOf (p % 4))
+    group-is : p < 12 → at ≡ groupAt z 0 (numbered (p % 4))
     group-is h = rw (lt-ltb p 12 h)
 
     pub going-laid : Going s z p i work full reds blues → Going s z p (i + count) after full reds blues
@@ -130,10 +129,10 @@ module _ (s : List ℕ) (z : Plan) (fits : Fits z 0) where
         same : colourIn p ≡ colourIn (p + 1)
         same =
             let q : p / 4 ≡ (p + 1) / 4 = omega (arith, b) in
-            rw (lt-ltb p 12 a, lt-ltb (p + 1) 12 (omega (arith, a, b))) (ap colourOf q)
+            rw (lt-ltb p 12 a, lt-ltb (p + 1) 12 (omega (arith, a, b))) (ap indexed q)
 
         own : (m : Group) → number m ≡ p % 4 → groupIn p ≡ m
-        own m e = rw (lt-ltb p 12 a) (ap groupOf (sym e) ∙ group-number m)
+        own m e = rw (lt-ltb p 12 a) (ap numbered (sym e) ∙ group-number m)
 
         before : (m : Group) → number m ≤ p % 4 → Stood z (coefs s) m (colourIn p) (groupAt z 0 m) 0 (z .n + 1) work
         before m h =

@@ -9,42 +9,30 @@ use lib.IntN.{ℤ}
 use lib.ListN.{length}
 use Rattle.lists.specs.Lists.{laid}
 use Rattle.lists.proofs.Laid.{laid-same}
-use Rattle.format.specs.Coefficients.{recordValues, coefs, planeSum, tileSum}
+use Rattle.format.specs.Coefficients.{recordValues, coefs}
 use Rattle.format.specs.Counts.{groupCount, brokenOf, spentOf}
+use Rattle.format.specs.Used.{groupUsed, bitsOf}
 use Rattle.format.specs.Packets.{sum, packetStart, packetLength, packetOf, kind, blocks, payloadAt}
-use Rattle.format.specs.Sizes.{Colour, index, l1, l2, l3, Group, base, detail, final, number, multiplier, components, columns}
+use Rattle.format.specs.Sizes.{Colour, index, Group, number, packetGroup, packetIndex, groupIn, colourIn, multiplier, components, columns}
 use Rattle.format.specs.Strip.{width}
 use Rattle.format.specs.Accepted.{Good, PacketOk}
-use Rattle.format.proofs.TurnLaws.{sum-most}
+use Rattle.format.proofs.Numbered.{packet-range, number-in, index-in, packet-present, packets-sum, multiplier-most, columns-most}
+use Rattle.packets.proofs.TilePackets.{ok, packet-long, packet-kind}
+use Rattle.packets.proofs.TilePackets as tilePackets
 use Rattle.passes.specs.declared.Plan.{Plan}
 use Rattle.passes.specs.Plan.{unitOf, finalUnits, Fits}
 use Rattle.records.specs.declared.Counts.{Counts}
 use Rattle.records.specs.declared.Finish.{Finish}
 use Rattle.records.specs.declared.Held.{Held}
 use Rattle.records.specs.declared.Walked.{Walked}
-use Rattle.records.specs.Counted.{none, both, Below, packetCounts}
+use Rattle.records.specs.Counted.{none, both, together, Few, packetCounts}
 use Rattle.records.specs.Finished.{finishedBy}
 use Rattle.records.specs.Record.{walkedBy, valuesBy}
-use Rattle.records.proofs.Packet.{count-lt, none-below, values-all, packet-counted}
+use Rattle.records.proofs.Packet.{together-few, few-more, packet-few, none-few, values-all, packet-counted}
 use Rattle.levels.specs.Block.{stood, recordLines, groupAt}
 use Rattle.levels.proofs.Blocks.{group-room}
-use Rattle.tile.specs.Packets.{packetGroup, packetIndex, groupIn, colourIn, Measured, heldOf, finishOf, groupCounts, tileCounts, packetLaid}
-use Rattle.tile.proofs.Numbers.{packet-range, number-in, index-in, packet-present}
+use Rattle.tile.specs.Packets.{Measured, heldOf, finishOf, groupCounts, tileCounts, packetLaid}
 use Rattle.tile.proofs.RecordLaws.{edges-fit, finished-stood}
-
-multiplier-most : (g : Group) → multiplier g ≤ 8
-multiplier-most base = omega arith
-multiplier-most (detail l1) = omega arith
-multiplier-most (detail l2) = omega arith
-multiplier-most (detail l3) = omega arith
-multiplier-most final = omega arith
-
-columns-most : (w : ℕ) (g : Group) → columns w g ≤ w
-columns-most w base = omega arith
-columns-most w (detail l1) = omega arith
-columns-most w (detail l2) = omega arith
-columns-most w (detail l3) = omega arith
-columns-most w final = omega arith
 
 module _ (s : List ℕ) (good : Good s) (z : Plan) (m : Measured s z) (fits : Fits z 0) (slots : z .slots ≡ z .n + 1) (p : ℕ) (h : p < 13) where
   abbrev g : Group
@@ -53,39 +41,24 @@ module _ (s : List ℕ) (good : Good s) (z : Plan) (m : Measured s z) (fits : Fi
   abbrev i : Colour
   i = colourIn p
 
-  ok : PacketOk s g (index i)
-  ok = good .packets g i (packet-present p h)
-
-  -- the packet lies in the stream
-  pub packet-there : (a k : ℕ) → a ≡ packetGroup p → k ≡ packetIndex p
-      → (128 ≤ length s) × (a < 5) × (k < 16) × (packetStart s a k + packetLength s a k ≤ length s)
-  packet-there a k ea ek =
-      let r = packet-range p h in
-      let na = ea ∙ sym (number-in p h) in
-      let nk = ek ∙ sym (index-in p h) in
-      (good .long, omega (arith, ea, r .0), omega (arith, ek, r .1), rw (na, nk) (ok .within))
-
   module _ (a k : ℕ) (ea : a ≡ packetGroup p) (ek : k ≡ packetIndex p) (q : List ℕ) (eq : q ≡ packetOf s a k) where
-    pub own : q ≡ packetOf s (number g) (index i)
-    own = eq ∙ (λ j. packetOf s ((ea ∙ sym (number-in p h)) j) ((ek ∙ sym (index-in p h)) j))
-
-    pub packet-long : 16 ≤ length q
-    packet-long = rw own (ok .long)
+    own : q ≡ packetOf s (number g) (index i)
+    own = tilePackets.own s good p h a k ea ek q eq
 
     kinds : kind q ≡ components g
-    kinds = ap kind own ∙ ok .kinds
+    kinds = packet-kind s good p h a k ea ek q eq
 
     module _ (d : Held) (ed : d ≡ heldOf z 0 g) (f : Finish) (ef : f ≡ finishOf z g i) where
       -- what its records ask
       pub records-ask : (v : Walked) → v .offset < 2 ^ 35 → v .counts ≡ none → (size : ℕ) → finalUnits * unitOf z ≤ size
-          → ((16 ≤ length q) × (0 + (z .n + 1) ≤ 2 ^ 16) × (v .offset < 2 ^ 35) × Below (2 ^ 59) (v .counts) × (f .first + f .count ≤ kind q * d .m))
+          → ((16 ≤ length q) × (0 + (z .n + 1) ≤ 2 ^ 16) × (v .offset < 2 ^ 35) × Few (2 ^ 59) (v .counts) × (f .first + f .count ≤ kind q * d .m))
           × ((d .m ≤ 8) × (d .cols < 2 ^ 16) × (z .n + 1 ≤ d .slots) × (d .at + d .slots * (kind q * d .m * d .cols) ≤ size))
       records-ask v o n size room =
           let few : z .n ≤ 2048 = omega (arith, m .tall, good .low) in
           let narrow : columns (z .w) g < 2 ^ 16 = omega (arith, columns-most (z .w) g, m .wide, good .narrow) in
           let fit = group-room z 0 (fits .0 .whole) g in
           rw (ed, ef, kinds) (
-            (packet-long, omega (arith, few), o, none-below (v .counts) n, edges-fit z i g),
+            (packet-long s good p h a k ea ek q eq, omega (arith, few), o, none-few (v .counts) n, edges-fit z i g),
             (multiplier-most g, narrow, omega (arith, slots), omega (arith, fit, room)),
           )
 
@@ -105,24 +78,21 @@ module _ (s : List ℕ) (good : Good s) (z : Plan) (m : Measured s z) (fits : Fi
                 let zero = zero-add k in
                 (λ j. finishedBy (finishOf z g i) (columns (z .w) g) (zero j) (values-all q (multiplier g) (columns (z .w) g) v o n k j))
                 ∙ ap (λ (t : List ℕ). finishedBy (finishOf z g i) (columns (z .w) g) k (recordValues t (multiplier g) (columns (z .w) g) k)) own
-                ∙ finished-stood s z m i k g (ok .kinds)
+                ∙ finished-stood s z m i k g (ok s good p h .kinds)
                 ∙ ap (recordLines (z .w) g (stood (z .guarded) (z .n) (coefs s) g i)) (sym zero)
 
         pub records-counted : (r : Walked) → r ≡ walkedBy q (d .m) (d .cols) 0 v (z .n + 1) → r .counts ≡ groupCounts s g i
-        unfolding groupCount
+        unfolding groupCount groupUsed
         records-counted r e =
-            let few : blocks q ≤ z .n + 1 = omega (arith, ap blocks own, ok .few, m .tall) in
+            let few : blocks q ≤ z .n + 1 = omega (arith, ap blocks own, ok s good p h .few, m .tall) in
             ap (λ (x : Walked). x .counts) e
             ∙ (λ j. walkedBy q (ed j .m) (ed j .cols) 0 v (z .n + 1) .counts)
             ∙ packet-counted q (multiplier g) (columns (z .w) g) v o n (z .n + 1) few
             ∙ (λ j. packetCounts (own j) (multiplier g) (columns (m .wide j) g))
 
--- ---- counts, packet by packet: how many records of the first p packets go by k
-abbrev goingBy : ℕ → List ℕ → ℕ → ℕ
-goingBy k s p = sum (λ q. groupCount k s (groupIn q) (colourIn q)) p
-
+-- ---- counts, packet by packet: those of the first p packets
 abbrev pub countsBy : List ℕ → ℕ → Counts
-countsBy s p = record { broken = goingBy 1 s p; spent = goingBy 2 s p }
+countsBy s p = together (λ q. groupCounts s (groupIn q) (colourIn q)) p
 
 pub counts-start : (s : List ℕ) → none ≡ countsBy s 0
 unfolding sum
@@ -132,27 +102,21 @@ pub counts-step : (s : List ℕ) (p : ℕ) (c d : Counts) → c ≡ countsBy s p
 unfolding sum
 counts-step s p c d e f = rw add-one (λ j. both (e j) (f j))
 
-packets-sum : (f : Group → Colour → ℕ) → sum (λ q. f (groupIn q) (colourIn q)) 13 ≡ tileSum f
-unfolding sum tileSum planeSum
-packets-sum f = omega arith
-
 pub counts-all : (s : List ℕ) → countsBy s 13 ≡ tileCounts s
-unfolding brokenOf spentOf
-counts-all s = λ j. record { broken = packets-sum (groupCount 1 s) j; spent = packets-sum (groupCount 2 s) j }
+unfolding brokenOf spentOf bitsOf
+counts-all s = λ j. record { broken = packets-sum (groupCount 1 s) j; spent = packets-sum (groupCount 2 s) j; bits = packets-sum (groupUsed s) j }
 
--- ---- they are small
-group-most : (k : ℕ) (s : List ℕ) (g : Group) (i : Colour) → groupCount k s g i ≤ 65535
-unfolding groupCount
-group-most k s g i = omega (arith, count-lt k (packetOf s (number g) (index i)) (multiplier g) (columns (width s) g))
+-- ---- they are few
+group-few : (s : List ℕ) (g : Group) (i : Colour) → Few (2 ^ 35) (groupCounts s g i)
+unfolding groupCount groupUsed
+group-few s g i = packet-few (packetOf s (number g) (index i)) (multiplier g) (columns (width s) g)
 
-going-most : (k : ℕ) (s : List ℕ) (p : ℕ) → goingBy k s p ≤ p * 65535
-going-most k s p = sum-most (λ q. groupCount k s (groupIn q) (colourIn q)) 65535 (λ q. group-most k s (groupIn q) (colourIn q)) p
+pub packet-below : (s : List ℕ) (g : Group) (i : Colour) (c : Counts) → c ≡ groupCounts s g i → Few (2 ^ 60) c
+packet-below s g i c e = rw e (few-more (2 ^ 35) (2 ^ 60) _ (omega arith) (group-few s g i))
 
-pub group-below : (s : List ℕ) (g : Group) (i : Colour) (c : Counts) → c ≡ groupCounts s g i → Below (2 ^ 60) c
-group-below s g i c e = rw e (record { broken = omega (arith, group-most 1 s g i); spent = omega (arith, group-most 2 s g i) })
+pub counts-below : (s : List ℕ) (p : ℕ) (c : Counts) → p ≤ 13 → c ≡ countsBy s p → Few (2 ^ 60) c
+counts-below s p c h e =
+    rw e (few-more (p * 2 ^ 35) (2 ^ 60) _ (omega arith) (together-few _ (2 ^ 35) (λ q. group-few s (groupIn q) (colourIn q)) p))
 
-pub counts-below : (s : List ℕ) (p : ℕ) (c : Counts) → p ≤ 13 → c ≡ countsBy s p → Below (2 ^ 60) c
-counts-below s p c h e = rw e (record { broken = omega (arith, going-most 1 s p); spent = omega (arith, going-most 2 s p) })
-
-pub tile-below : (s : List ℕ) (c : Counts) → c ≡ tileCounts s → Below (2 ^ 60) c
+pub tile-below : (s : List ℕ) (c : Counts) → c ≡ tileCounts s → Few (2 ^ 60) c
 tile-below s c e = counts-below s 13 c (omega arith) (e ∙ sym (counts-all s))

@@ -5,13 +5,12 @@ use Prim.Native.Nat.{ℕ, _+_, _*_, _%_, _≤_, _<_}
 use lib.IntN.{ℤ}
 use Rattle.wrap32.specs.Arithmetic.{wrapping}
 use Rattle.format.specs.Coefficients.{coefs}
-use Rattle.format.specs.Sizes.{Colour, green, red, blue, Group, number, planeRows}
+use Rattle.format.specs.Sizes.{Colour, green, red, blue, Group, number, groupIn, colourIn, planeRows}
 use Rattle.format.specs.Strip.{width, codedHeight}
 use Rattle.format.specs.Synthesis.{planes}
 use Rattle.passes.specs.declared.Plan.{Plan}
 use Rattle.passes.specs.Plan.{unitOf, blockUnits, passingUnits}
 use Rattle.levels.specs.Block.{Stood, groupAt, Outcomes}
-use Rattle.tile.specs.Packets.{groupIn, colourIn}
 
 -- the plane of an index of a stream
 abbrev pub decodedPlane : List ℕ → Colour → List ℤ

@@ -1,36 +1,21 @@
--- The 13 packets of a tile in the order of document 01's checks: groups 0 to 3 of green, of red, of blue, then group 4. Where their records
--- stand in the work slice of a whole tile, and how they are finished.
+-- The 13 packets of a tile: where their records stand in the work slice of a whole tile, how they are finished, what they count.
 use mathlib.Core.Path.{_≡_}
 use mathlib.Core.Bool.{true, false, cond}
 use mathlib.Core.List.{List}
-use Prim.Native.Nat.{ℕ, _+_, _*_, _/_, _%_}
-use lib.Dec.{ltb}
+use Prim.Native.Nat.{ℕ, _+_, _*_, _%_}
 use lib.IntN.{ℤ}
 use Rattle.lists.specs.Lists.{laid}
 use Rattle.format.specs.Coefficients.{coefs}
 use Rattle.format.specs.Counts.{groupCount, brokenOf, spentOf}
-use Rattle.format.specs.Sizes.{Colour, l1, l2, l3, Group, base, detail, final, multiplier, columns, stripes, guarded}
+use Rattle.format.specs.Used.{groupUsed, bitsOf}
+use Rattle.format.specs.Sizes.{Colour, l1, l2, l3, Group, base, detail, final, groupIn, colourIn, multiplier, columns, stripes, guarded}
 use Rattle.format.specs.Strip.{width, codedHeight}
 use Rattle.format.specs.Table.{mode}
-use Rattle.packets.specs.Answers.{groupOf, colourOf}
 use Rattle.passes.specs.declared.Plan.{Plan}
 use Rattle.records.specs.declared.Counts.{Counts}
 use Rattle.records.specs.declared.Finish.{Finish}
 use Rattle.records.specs.declared.Held.{Held}
 use Rattle.levels.specs.Block.{stood, recordSize, recordLines, groupAt}
-
--- the group and the index of packet p, as numbers, and what they are
-abbrev pub packetGroup : ℕ → ℕ
-packetGroup p = cond (ltb p 12) (p % 4) 4
-
-abbrev pub packetIndex : ℕ → ℕ
-packetIndex p = cond (ltb p 12) (p / 4) 0
-
-abbrev pub groupIn : ℕ → Group
-groupIn p = groupOf (packetGroup p)
-
-abbrev pub colourIn : ℕ → Colour
-colourIn p = colourOf (packetIndex p)
 
 -- a plan of a stream's sizes
 pub record Measured (s : List ℕ) (z : Plan) : Type 0 where
@@ -56,10 +41,10 @@ finishOf z final i = asIs
 
 -- the counts of a packet's records, and of the tile's
 abbrev pub groupCounts : List ℕ → Group → Colour → Counts
-groupCounts s g i = record { broken = groupCount 1 s g i; spent = groupCount 2 s g i }
+groupCounts s g i = record { broken = groupCount 1 s g i; spent = groupCount 2 s g i; bits = groupUsed s g i }
 
 abbrev pub tileCounts : List ℕ → Counts
-tileCounts s = record { broken = brokenOf s; spent = spentOf s }
+tileCounts s = record { broken = brokenOf s; spent = spentOf s; bits = bitsOf s }
 
 -- ---- in document 01's words
 -- the work slice with `count` records of packet p from record `from` on laid into it, finished

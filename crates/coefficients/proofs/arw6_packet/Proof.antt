@@ -20,7 +20,7 @@ returns-2 c =
     let e = c .before .before .before in
     let yes = sym (e .before .fits2 .ensures) ∙ not-false (e .before .fits2 .result) (e .if1 .left) in
     let counts = d .ensures .0 in
-    (simp yes (λ j. record { together = 1; broken = counts j .broken; spent = counts j .spent }), simp yes (d .ensures .1))
+    (simp yes (λ j. record { together = 1; broken = counts j .broken; spent = counts j .spent; bits = counts j .bits }), simp yes (d .ensures .1))
 
 pub arw6-packet-spec : {M : Type 1} → statement M
 arw6-packet-spec =

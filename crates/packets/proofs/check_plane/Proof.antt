@@ -4,7 +4,7 @@ use borrow.Author.Needs.{needs}
 use borrow.Author.Tests.{lt-ltb, le-ltb}
 use Rattle.format.specs.Refusals.{planeRefusal}
 use Rattle.format.proofs.TurnLaws.{stops}
-use Rattle.packets.proofs.AnswerLaws.{index-of}
+use Rattle.format.proofs.Numbered.{index-of}
 use Rattle.packets.proofs.check_plane.Statement.{statement}
 use Rattle.packets.proofs.check_plane.Tie as tie
 

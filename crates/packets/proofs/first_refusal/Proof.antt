@@ -1,6 +1,6 @@
 -- `packets::first_refusal` meets its contract. Assumes nothing.
 use borrow.Author.Needs.{needs}
-use mathlib.Core.Path.{sym, _∙_}
+use mathlib.Core.Path.{sym}
 use native.Mathlib.Omega.{arith}
 use Rattle.format.proofs.TurnLaws.{stops}
 use Rattle.packets.proofs.LengthLaws.{number-small, needed-long, needed-refused, needed-rest}
@@ -26,8 +26,8 @@ returns-2 c =
     let rest = needed-rest (g .stream .now) (n .result) (n .ensures) (g .green) (g .red) (g .blue) (g .work) (a .before .if1 .left) in
     rw rest (rw (← (a .check-lent .ensures)) (sym (stops _ _ (c .if2 .taken))))
 
-parse-directory-requires : tie.Need-parse-directory-requires
-parse-directory-requires c κs =
+check-rest-requires : tie.Need-check-rest-requires
+check-rest-requires c κs =
     let a = c .before in
     let n = a .before .before .before .lengths-of in
     needed-long _ (n .result) (n .ensures) (a .before .if1 .left)
@@ -35,29 +35,12 @@ parse-directory-requires c κs =
 returns-3 : tie.Need-returns-3
 returns-3 c =
     let b = c .before in
-    let a = b .before .before in
+    let a = b .before in
     let x = a .before .before .before in
     let g = x .before .before .args in
     let n = x .lengths-of in
     let rest = needed-rest (g .stream .now) (n .result) (n .ensures) (g .green) (g .red) (g .blue) (g .work) (a .before .if1 .left) in
-    rw rest (simp (← (a .check-lent .ensures), b .before .if2 .left, ← (b .parse-directory .ensures)) (sym (stops _ _ (c .if3 .taken))))
-
-check-packets-requires : tie.Need-check-packets-requires
-check-packets-requires c κs =
-    let a = c .before .before .before in
-    let n = a .before .before .before .lengths-of in
-    (needed-long _ (n .result) (n .ensures) (a .before .if1 .left), sym (c .before .parse-directory .ensures) ∙ c .if3 .left)
-
-returns-4 : tie.Need-returns-4
-returns-4 c =
-    let e = c .before in
-    let b = e .before in
-    let a = b .before .before in
-    let x = a .before .before .before in
-    let g = x .before .before .args in
-    let n = x .lengths-of in
-    let rest = needed-rest (g .stream .now) (n .result) (n .ensures) (g .green) (g .red) (g .blue) (g .work) (a .before .if1 .left) in
-    rw rest (simp (← (a .check-lent .ensures), b .before .if2 .left, ← (b .parse-directory .ensures), e .if3 .left, c .check-packets .ensures))
+    rw rest (simp (← (a .check-lent .ensures), b .if2 .left, c .check-rest .ensures))
 
 pub first-refusal-spec : {M : Type 1} → statement M
 first-refusal-spec =
@@ -68,7 +51,5 @@ first-refusal-spec =
     returns
     (λ c κs. search needs)
     returns-2
-    parse-directory-requires
-    returns-3
-    check-packets-requires
-    returns-4)
+    check-rest-requires
+    returns-3)

@@ -1,6 +1,7 @@
 -- `tile::decode_packet` meets its contract. Assumes nothing.
 use native.Mathlib.Omega.{arith}
-use Rattle.tile.proofs.PacketLaws.{packet-there, packet-long, records-ask, records-laid, records-counted}
+use Rattle.packets.proofs.TilePackets.{packet-there, packet-long}
+use Rattle.tile.proofs.PacketLaws.{records-ask, records-laid, records-counted}
 use borrow.Author.Needs.{needs}
 use Rattle.tile.proofs.decode_packet.Statement.{statement}
 use Rattle.tile.proofs.decode_packet.Tie as tie
@@ -10,8 +11,7 @@ packet-requires c κs =
     let i = c .before in
     let h = i .before .before in
     let s = h .args in
-    let r = h .pre .1 in
-    packet-there (s .stream .now) (h .pre .0) (s .z) (r .0) (r .1) (r .2) (s .p) (r .3) _ _ (i .group-of .ensures) (c .index-of .ensures)
+    packet-there (s .stream .now) (h .pre .0) (s .p) (h .pre .1 .3) _ _ (i .group-of .ensures) (c .index-of .ensures)
 
 before-first-requires : tie.Need-before-first-requires
 before-first-requires c κs =
@@ -19,10 +19,7 @@ before-first-requires c κs =
     let i = k .before in
     let h = i .before .before in
     let s = h .args in
-    let p = h .pre in
-    let r = p .1 in
-    let z = s .z in
-    omega (arith, packet-long (s .stream .now) (p .0) z (r .0) (r .1) (r .2) (s .p) (r .3) _ _ (i .group-of .ensures) (k .index-of .ensures) _ (c .packet .ensures))
+    omega (arith, packet-long (s .stream .now) (h .pre .0) (s .p) (h .pre .1 .3) _ _ (i .group-of .ensures) (k .index-of .ensures) _ (c .packet .ensures))
 
 next-records-requires : tie.Need-next-records-requires
 next-records-requires c κs =

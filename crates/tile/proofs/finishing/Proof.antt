@@ -3,9 +3,8 @@ use mathlib.Core.Path.{_≡_, ap, _∙_}
 use mathlib.Core.Bool.{Bool, false}
 use Prim.Native.Nat.{ℕ}
 use lib.Dec.{ltb}
-use Rattle.format.specs.Sizes.{l3}
+use Rattle.format.specs.Sizes.{l3, indexed}
 use Rattle.format.specs.Table.{mode}
-use Rattle.packets.specs.Answers.{colourOf}
 use Rattle.records.specs.declared.Finish.{Finish}
 use Rattle.tile.proofs.Numbers.{left-as-read, odd-index}
 use borrow.Author.Needs.{needs}
@@ -16,7 +15,7 @@ module _ (k first count last : ℕ) where
   abbrev with : Bool → Finish
   with odd = record { sums = false; first = first; count = count; last = last; odd = odd }
 
-  odd-as : with (ltb 0 k) ≡ with (mode l3 (colourOf k))
+  odd-as : with (ltb 0 k) ≡ with (mode l3 (indexed k))
   odd-as = ap with (odd-index k)
 
 returns : tie.Need-returns
@@ -47,7 +46,7 @@ returns-6 : tie.Need-returns-6
 returns-6 c =
     let a = c .before .before .args in
     let r = c .before .match .rest in
-    c .finish-of6 .ensures ∙ left-as-read (a .z) (a .g) (colourOf (a .k)) (r .0 .0 .1) (r .0 .1) (r .1)
+    c .finish-of6 .ensures ∙ left-as-read (a .z) (a .g) (indexed (a .k)) (r .0 .0 .1) (r .0 .1) (r .1)
 
 pub finishing-spec : {M : Type 1} → statement M
 finishing-spec =

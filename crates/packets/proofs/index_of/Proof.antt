@@ -1,7 +1,7 @@
--- `tile::index_of` meets its contract. Assumes nothing.
+-- `packets::index_of` meets its contract. Assumes nothing.
 use borrow.Author.Tests.{lt-ltb, le-ltb}
-use Rattle.tile.proofs.index_of.Statement.{statement}
-use Rattle.tile.proofs.index_of.Tie as tie
+use Rattle.packets.proofs.index_of.Statement.{statement}
+use Rattle.packets.proofs.index_of.Tie as tie
 
 returns : tie.Need-returns
 returns c =

@@ -1,7 +1,7 @@
--- `tile::group_of` meets its contract. Assumes nothing.
+-- `packets::group_of` meets its contract. Assumes nothing.
 use borrow.Author.Tests.{lt-ltb, le-ltb}
-use Rattle.tile.proofs.group_of.Statement.{statement}
-use Rattle.tile.proofs.group_of.Tie as tie
+use Rattle.packets.proofs.group_of.Statement.{statement}
+use Rattle.packets.proofs.group_of.Tie as tie
 
 returns : tie.Need-returns
 returns c =
