@@ -13,9 +13,9 @@
 #include <stddef.h>
 #include <stdint.h>
 
-#define ARW6_VERSION "0.4.0"
+#define ARW6_VERSION "0.5.0"
 #define ARW6_VERSION_MAJOR 0
-#define ARW6_VERSION_MINOR 4
+#define ARW6_VERSION_MINOR 5
 #define ARW6_VERSION_PATCH 0
 
 #ifdef __cplusplus
@@ -60,7 +60,10 @@ struct arw6_lengths arw6_lengths(const uint8_t *stream, size_t stream_len);
 
    A record that stops early is 0 from there on, and goes by what it met first: a width above 19 makes it broken, the end of its allowance
    of bits makes it spent. Broken records are damage. Spent ones are ordinary: on an evenly lit lining the coder lets records run out on
-   purpose. */
+   purpose.
+
+   A record takes bits from its allowance, 128 for each 16 bytes that its length begins. A read that runs out takes what was left; the zeros
+   that come of it take nothing. */
 struct arw6_decoded {
     uint64_t refusal; /* 0: accepted */
     uint64_t width;   /* as in arw6_lengths */
@@ -69,6 +72,7 @@ struct arw6_decoded {
     uint64_t stopped; /* records that stopped early: broken + spent */
     uint64_t broken;  /* records that first met a width above 19: damage */
     uint64_t spent;   /* records that first ran past their allowance: ordinary */
+    uint64_t bits;    /* that all records took from their allowances */
 };
 
 /* Decodes the stream of one tile, of stream_len bytes.
@@ -80,6 +84,27 @@ struct arw6_decoded {
    In an ordinary frame, where no record has a selector above 4, every number of the planes lies strictly between -536,870,912 and
    536,870,912, so the sum and the difference of two fit int32_t. */
 struct arw6_decoded arw6_decode_stream(const uint8_t *stream, size_t stream_len, int32_t *green, size_t green_len, int32_t *red, size_t red_len, int32_t *blue, size_t blue_len, int32_t *work, size_t work_len);
+
+/* What one record is. A refusal, and a record that isn't there, come with every other field 0. */
+struct arw6_record {
+    uint64_t refusal;   /* 0: accepted */
+    uint64_t bytes;     /* its byte length */
+    uint64_t allowance; /* in bits: 128 for each 16 bytes begun */
+    uint64_t bits;      /* that it took from its allowance, and never more */
+    uint64_t broken;    /* 1 where it is broken, else 0 */
+    uint64_t spent;     /* 1 where it is spent, else 0 */
+};
+
+/* One record of the stream of a tile, of stream_len bytes: record from 0, of packet 0 to 12, which are groups 0 to 3 of green (0 to 3), of red
+   (4 to 7) and of blue (8 to 11), and group 4 (12).
+
+   Lent, and never kept: band, for the record's coefficients as they are read, component after component, each of m rows: m is 1, 1, 2, 4, 8 and a
+   row has w / 16, w / 16, w / 8, w / 4, w / 2 numbers in groups 0 to 4; groups 1 to 3 have three components, groups 0 and 4 one. No record has
+   more than 4 w numbers. Accepted, they stand at the start of band. A record of byte length 0 is there, and its coefficients are 0.
+
+   The refusals are those of arw6_decode_stream but 3 and 4, in its order; then 4 where band is shorter than the record. A packet or a record that
+   isn't there is not refused: every field is 0. There and with a refusal, no number of band changes. */
+struct arw6_record arw6_record(const uint8_t *stream, size_t stream_len, size_t packet, size_t record, int32_t *band, size_t band_len);
 
 /* What writing one tile answers. A refusal (2, 3, 4, 20, 24, 25 or 26) comes with length 0. */
 struct arw6_written {

@@ -6,7 +6,10 @@ ghost use Rattle.format.specs.Tile.{lengthsOf, slice};
 ghost use Rattle.strip.specs.Answers.{tileField};
 ghost use Rattle.packets.specs.Answers.{codeLengths};
 ghost use Rattle.tile.specs.Decode.{TileOutcome};
+ghost use Rattle.inspection.specs.Inspect.{InspectOutcome};
 ghost use Rattle.writer.specs.Write.{WriteOutcome};
+use inspection::Inspected;
+use inspection::inspect_record;
 use packets::Lengths;
 use packets::lengths_of;
 use tile::Decoded;
@@ -44,7 +47,7 @@ pub extern "C" fn arw6_lengths(stream: &[u8]) -> Lengths
     lengths_of(stream)
 }
 
-// One tile: a refusal, with no slice changed, or the coded size, rows and stopped records with the three planes.
+// One tile: a refusal, with no slice changed, or the coded size, rows and counts with the three planes.
 #[no_mangle]
 pub extern "C" fn arw6_decode_stream(
     stream: &[u8],
@@ -56,6 +59,20 @@ pub extern "C" fn arw6_decode_stream(
     ensures { λ r. ⌜ TileOutcome (now (stream .entry)) (now (green .entry)) (now (red .entry)) (now (blue .entry)) (now (work .entry)) r (now (green .exit)) (now (red .exit)) (now (blue .exit)) (now (work .exit)) ⌝ }
 {
     decode_stream(stream, green, red, blue, work)
+}
+
+// One record of a tile's stream, of a packet from 0 to 12: a refusal, with no number of the band changed, or what is known of the record, with
+// its coefficients; every field 0 for one that isn't there.
+#[no_mangle]
+pub extern "C" fn arw6_record(
+    stream: &[u8],
+    packet: usize,
+    record: usize,
+    band: &mut [i32],
+) -> Inspected
+    ensures { λ r. ⌜ InspectOutcome (now (stream .entry)) packet «record» (now (band .entry)) r (now (band .exit)) ⌝ }
+{
+    inspect_record(stream, packet, record, band)
 }
 
 // One tile's stream from planes of a coded size: a refusal, or the stream's length with the stream.
