@@ -9,7 +9,8 @@ use borrow.Author.Tests.{ltb-true}
 use Rattle.wrap32.proofs.Laws.{of-cond}
 use Rattle.lists.specs.Lists.{rows}
 use Rattle.lists.proofs.Rows.{length-rows}
-use Rattle.format.specs.Writing.{numberBits, zeroBits, groupAt, entries, packed}
+use Rattle.format.specs.Sizes.{numbered}
+use Rattle.format.specs.Writing.{numberBits, zeroBits, entries, packed}
 use Rattle.encoding.proofs.Widths.{length-number}
 use Rattle.encoding.specs.Wrote.{fresh, Room, Appends}
 use Rattle.encoding.specs.declared.BitWriter.{BitWriter}
@@ -19,14 +20,14 @@ use Rattle.encoding.proofs.Records.{sum-some}
 use Rattle.assembly.specs.Front.{Narrow, unitsAt, groupOf, entryOf, blockOf, sizesOf, blocksOf, namedOf, frontOf}
 
 -- ---- the packets of a group
-pub entries-three : (g : ℕ) → g < 4 → 3 ≡ entries (groupAt g)
+pub entries-three : (g : ℕ) → g < 4 → 3 ≡ entries (numbered g)
 entries-three zero h = refl
 entries-three (suc zero) h = refl
 entries-three (suc (suc zero)) h = refl
 entries-three (suc (suc (suc zero))) h = refl
 entries-three (suc (suc (suc (suc g)))) h = absurd (omega arith)
 
-pub entries-one : (g : ℕ) → 4 ≤ g → 1 ≡ entries (groupAt g)
+pub entries-one : (g : ℕ) → 4 ≤ g → 1 ≡ entries (numbered g)
 entries-one zero h = absurd (omega arith)
 entries-one (suc zero) h = absurd (omega arith)
 entries-one (suc (suc zero)) h = absurd (omega arith)
@@ -37,8 +38,8 @@ entries-one (suc (suc (suc (suc g)))) h = refl
 pub entry-narrow : (u : List ℕ) (g k : ℕ) → Narrow u → g < 5 → entryOf u g k < 2 ^ 24
 unfolding entryOf groupOf
 entry-narrow u g k n h =
-    of-cond (λ (x : ℕ). x < 2 ^ 24) (ltb k (entries (groupAt g))) _ _
-    (λ t. omega (arith, n .group g h, sum-some (unitsAt u g) (entries (groupAt g)) k (ltb-true k (entries (groupAt g)) t)))
+    of-cond (λ (x : ℕ). x < 2 ^ 24) (ltb k (entries (numbered g))) _ _
+    (λ t. omega (arith, n .group g h, sum-some (unitsAt u g) (entries (numbered g)) k (ltb-true k (entries (numbered g)) t)))
     (λ t. omega arith)
 
 -- ---- lengths
@@ -55,7 +56,7 @@ module _ (u : List ℕ) where
   pub length-block : (g : ℕ) → length (blockOf u g) ≡ 128
   unfolding blockOf
   length-block g =
-      let n = entries (groupAt g) in
+      let n = entries (numbered g) in
       let e = rows 5 (λ k. numberBits 24 (entryOf u g k)) in
       omega (arith, length-append (zeroBits 4) (numberBits 4 n ++ e), length-append (numberBits 4 n) e, length-replicate {A = ℕ} 4 0, length-number 4 n, length-entries g 5)
 
@@ -63,7 +64,7 @@ module _ (u : List ℕ) where
   length-blocks n = length-rows 128 (blockOf u) length-block n
 
 -- the first byte of a block, and the rest
-pub block-bits : (u : List ℕ) (g n : ℕ) → n ≡ entries (groupAt g) → n ≤ 3 → numberBits 8 n ++ rows 5 (λ k. numberBits 24 (entryOf u g k)) ≡ blockOf u g
+pub block-bits : (u : List ℕ) (g n : ℕ) → n ≡ entries (numbered g) → n ≤ 3 → numberBits 8 n ++ rows 5 (λ k. numberBits 24 (entryOf u g k)) ≡ blockOf u g
 unfolding blockOf
 block-bits u g n e h =
     let z : n ≡ 0 * 2 ^ 4 + n = omega arith in

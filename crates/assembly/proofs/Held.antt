@@ -18,8 +18,8 @@ use Rattle.format.specs.Numbers.{componentAt, rowAt, inTurn, packetRows, packet
 use Rattle.format.specs.Writing.{units, filled, records, headUnits, recordBits, wholeRecord, recordBytes, recordHead, payloadUnits, packetHead, packetBits, packetUnits}
 use Rattle.format.proofs.PlaceLaws.{read-flat}
 use Rattle.encoding.specs.Wrote.{line}
-use Rattle.encoding.proofs.Records.{record-in, sum-same}
-use Rattle.format.proofs.TurnLaws.{each-same}
+use Rattle.encoding.proofs.Records.{record-in}
+use Rattle.format.proofs.TurnLaws.{sum-same, each-same}
 use Rattle.assembly.specs.Packet.{headUnitsOf, openBits, headOf, numbersAt, bitsOf, bytesOf, payloadOf, unitsOf, longRefusal, headsOf, recordsOf, bitsIn}
 use Rattle.assembly.specs.Tile.{shapeOf}
 

@@ -1,44 +1,25 @@
--- The packets of a tile: their groups and colours by number, and that they lie in the work slice. Assumes nothing.
-use mathlib.Core.Path.{_≡_, refl, sym, ap, _∙_}
+-- The packets of a tile: that it has them, and that they lie in the work slice. Assumes nothing.
+use mathlib.Core.Path.{_≡_, sym, ap, _∙_}
 use mathlib.Core.Bool.{true}
-use Prim.Native.Nat.{ℕ, zero, suc, _+_, _-_, _*_, _/_, _%_, _^_, _≤_, _<_}
+use Prim.Native.Nat.{ℕ, _+_, _-_, _*_, _/_, _%_, _^_, _≤_, _<_}
 use native.Mathlib.Nat.{mul-le-mul-right, mul-assoc}
 use native.Mathlib.Omega.{arith}
 use mathlib.Core.List.{List}
 use lib.IntN.{ℤ}
 use lib.ListN.{length, take, drop}
 use Rattle.lists.proofs.Tab.{length-part}
-use Rattle.format.specs.Sizes.{Colour, green, red, blue, index, l1, l2, l3, Group, base, detail, final, present, multiplier, components, columns, workLength}
+use Rattle.format.specs.Sizes.{Colour, green, red, blue, l1, l2, l3, Group, base, detail, final, present, multiplier, components, columns, workLength}
 use Rattle.format.specs.Numbers.{packetRows}
-use Rattle.format.specs.Writing.{groupAt, colourAt, records}
+use Rattle.format.specs.Writing.{records}
+use Rattle.format.proofs.Numbered.{present-of}
 use Rattle.encoding.specs.Wrote.{Small, line}
 use Rattle.assembly.specs.Packet.{Sound}
 use Rattle.assembly.specs.declared.packet.Shape.{Shape}
 use Rattle.assembly.specs.declared.place.Located.{Located}
 use Rattle.assembly.specs.Tile.{unitOf, packetAt, shapeOf, Tile, groupIn, colourIn, shapeIn, numbersIn}
 
-pub last-group : (g : ℕ) → (g ≡ 0 → ⊥) → (g ≡ 1 → ⊥) → (g ≡ 2 → ⊥) → (g ≡ 3 → ⊥) → groupAt g ≡ final
-last-group zero a b c d = absurd (a refl)
-last-group (suc zero) a b c d = absurd (b refl)
-last-group (suc (suc zero)) a b c d = absurd (c refl)
-last-group (suc (suc (suc zero))) a b c d = absurd (d refl)
-last-group (suc (suc (suc (suc g)))) a b c d = refl
-
-pub index-at : (i : ℕ) → i < 3 → i ≡ index (colourAt i)
-index-at zero h = refl
-index-at (suc zero) h = refl
-index-at (suc (suc zero)) h = refl
-index-at (suc (suc (suc i))) h = absurd (omega arith)
-
-present-at : (g i : ℕ) → (3 < g → i ≡ 0) → present (groupAt g) (colourAt i) ≡ true
-present-at zero i h = refl
-present-at (suc zero) i h = refl
-present-at (suc (suc zero)) i h = refl
-present-at (suc (suc (suc zero))) i h = refl
-present-at (suc (suc (suc (suc g)))) i h = ap (λ (j : ℕ). present final (colourAt j)) (h (omega arith))
-
 pub present-in : (p : ℕ) → p < 13 → present (groupIn p) (colourIn p) ≡ true
-present-in p h = present-at (p / 3) (p % 3) (λ l. omega arith)
+present-in p h = present-of (p / 3) (p % 3) (λ l. omega arith)
 
 -- every shape is sound
 pub sound : (w k : ℕ) (g : Group) → w < 2 ^ 16 → k ≤ 2049 → Sound (shapeOf w k g)

@@ -15,11 +15,12 @@ use Rattle.lists.proofs.Rows.{rows-same}
 use Rattle.format.specs.Packets.{sum}
 use Rattle.format.specs.Refusals.{_▷_, on, each}
 use Rattle.format.specs.Coefficients.{Coefs}
-use Rattle.format.specs.Writing.{numberBits, zeroBits, groupAt, colourAt, entries, records, recordBytes, packetBits, packetUnits, groupBits, groupUnits, entryUnits, blockBits, headerBits, streamBits, streamLength, lengthsRefusal, packed, streamOf}
+use Rattle.format.specs.Sizes.{numbered, indexed}
+use Rattle.format.specs.Writing.{numberBits, zeroBits, entries, records, recordBytes, packetBits, packetUnits, groupBits, groupUnits, entryUnits, blockBits, headerBits, streamBits, streamLength, lengthsRefusal, packed, streamOf}
 use Rattle.format.proofs.BitLaws.{le-or-lt}
-use Rattle.format.proofs.TurnLaws.{not-on, both-none, each-zero, each-same}
+use Rattle.format.proofs.TurnLaws.{sum-same, not-on, both-none, each-zero, each-same}
 use Rattle.encoding.proofs.Pushed.{number-zeros}
-use Rattle.encoding.proofs.Records.{sum-same, sum-some}
+use Rattle.encoding.proofs.Records.{sum-some}
 use Rattle.encoding.proofs.Finished.{packed-append, packed-rows}
 use Rattle.assembly.specs.Front.{Units, Narrow, unitsAt, groupOf, entryOf, blockOf, frontOf}
 use Rattle.assembly.specs.Tile.{Holds, groupIn, colourIn, shapeIn, numbersIn, unitsIn, refusalIn, packetBitsIn, Short}
@@ -29,7 +30,7 @@ use Rattle.assembly.proofs.Fronts.{entries-three, entries-one, length-f
 use Rattle.assembly.proofs.Whole.{whole-bits}
 
 -- packet k of group g is one of the 13
-entry-within : (g k : ℕ) → g < 5 → k < entries (groupAt g) → (3 * g + k < 13) × (k < 3)
+entry-within : (g k : ℕ) → g < 5 → k < entries (numbered g) → (3 * g + k < 13) × (k < 3)
 entry-within g k h l =
     ⊎-elim
     (λ (a : 4 ≤ g). let e = entries-one g a in (omega arith, omega arith))
@@ -52,11 +53,11 @@ units-small f h = record { long = length-tab 13 f; small = at }
 ▷-assoc zero b c = refl
 ▷-assoc (suc a) b c = refl
 
-all-checks : (f : ℕ → ℕ → ℕ) → each (λ p. f (p / 3) (p % 3)) 13 ≡ each (λ g. each (f g) (entries (groupAt g))) 5
+all-checks : (f : ℕ → ℕ → ℕ) → each (λ p. f (p / 3) (p % 3)) 13 ≡ each (λ g. each (f g) (entries (numbered g))) 5
 unfolding each
 all-checks f = simp ▷-assoc
 
-all-packets : (f : ℕ → ℕ → List ℕ) → rows 13 (λ p. f (p / 3) (p % 3)) ≡ rows 5 (λ g. rows (entries (groupAt g)) (f g))
+all-packets : (f : ℕ → ℕ → List ℕ) → rows 13 (λ p. f (p / 3) (p % 3)) ≡ rows 5 (λ g. rows (entries (numbered g)) (f g))
 unfolding rows
 all-packets f = simp append-assoc
 
@@ -70,9 +71,9 @@ module _ (w H : ℕ) (v : Coefs) (work : List ℤ) (h : Holds w H v work) where
 
   -- 26 of a record
   abbrev checked : ℕ → ℕ → ℕ
-  checked g k = each (λ r. on (ltb 65535 (recordBytes w H v (groupAt g) (colourAt k) r)) 26) (records H)
+  checked g k = each (λ r. on (ltb 65535 (recordBytes w H v (numbered g) (indexed k) r)) 26) (records H)
 
-  records-refusal : each (refusalIn w H work) 13 ≡ each (λ g. each (checked g) (entries (groupAt g))) 5
+  records-refusal : each (refusalIn w H work) 13 ≡ each (λ g. each (checked g) (entries (numbered g))) 5
   unfolding refusalIn
   records-refusal =
       each-same _ (λ p. checked (p / 3) (p % 3)) 13 (λ p l. refusal-held w H v (groupIn p) (colourIn p) _ (h .stand (groupIn p) (colourIn p) (present-in p l)))
@@ -82,31 +83,31 @@ module _ (w H : ℕ) (v : Coefs) (work : List ℤ) (h : Holds w H v work) where
   unfolding packetBitsIn groupBits
   packets-is =
       rows-same 13 _ (λ p. packetBits w H v (groupIn p) (colourIn p)) (λ p l. packet-held w H v (groupIn p) (colourIn p) _ (h .stand (groupIn p) (colourIn p) (present-in p l)))
-      ∙ all-packets (λ g k. packetBits w H v (groupAt g) (colourAt k))
+      ∙ all-packets (λ g k. packetBits w H v (numbered g) (indexed k))
 
   module _ (u : List ℕ) (e : u ≡ tab 13 (λ p. packetUnits w H v (groupIn p) (colourIn p))) where
-    at-is : (g k : ℕ) → g < 5 → k < entries (groupAt g) → unitsAt u g k ≡ packetUnits w H v (groupAt g) (colourAt k)
+    at-is : (g k : ℕ) → g < 5 → k < entries (numbered g) → unitsAt u g k ≡ packetUnits w H v (numbered g) (indexed k)
     at-is g k a b =
         let l = entry-within g k a b in
         let m : (3 * g + k) / 3 ≡ g = omega arith in
         let n : (3 * g + k) % 3 ≡ k = omega arith in
-        (λ i. getD (e i) (3 * g + k) 0) ∙ getD-tab 13 _ (3 * g + k) 0 (l .0) ∙ (λ i. packetUnits w H v (groupAt (m i)) (colourAt (n i)))
+        (λ i. getD (e i) (3 * g + k) 0) ∙ getD-tab 13 _ (3 * g + k) 0 (l .0) ∙ (λ i. packetUnits w H v (numbered (m i)) (indexed (n i)))
 
     pub group-is : (g : ℕ) → g < 5 → groupOf u g ≡ groupUnits w H v g
     unfolding groupOf groupUnits
-    group-is g a = sum-same _ _ (entries (groupAt g)) (λ k b. at-is g k a b)
+    group-is g a = sum-same _ _ (entries (numbered g)) (λ k b. at-is g k a b)
 
     entry-is : (g k : ℕ) → g < 5 → entryOf u g k ≡ entryUnits w H v g k
     unfolding entryOf entryUnits
-    entry-is g k a = by (ltb k (entries (groupAt g))) refl
+    entry-is g k a = by (ltb k (entries (numbered g))) refl
       where
-        by : (b : Bool) → ltb k (entries (groupAt g)) ≡ b → cond b (unitsAt u g k) 0 ≡ cond b (packetUnits w H v (groupAt g) (colourAt k)) 0
-        by true t = at-is g k a (ltb-true k (entries (groupAt g)) t)
+        by : (b : Bool) → ltb k (entries (numbered g)) ≡ b → cond b (unitsAt u g k) 0 ≡ cond b (packetUnits w H v (numbered g) (indexed k)) 0
+        by true t = at-is g k a (ltb-true k (entries (numbered g)) t)
         by false t = refl
 
     block-is : (g : ℕ) → g < 5 → blockOf u g ≡ blockBits w H v g
     unfolding blockOf blockBits
-    block-is g a = ap (λ (r : List ℕ). zeroBits 4 ++ (numberBits 4 (entries (groupAt g)) ++ r)) (rows-same 5 _ _ (λ k _. ap (numberBits 24) (entry-is g k a)))
+    block-is g a = ap (λ (r : List ℕ). zeroBits 4 ++ (numberBits 4 (entries (numbered g)) ++ r)) (rows-same 5 _ _ (λ k _. ap (numberBits 24) (entry-is g k a)))
 
     pub length-is : 128 + 16 * sum (groupOf u) 5 ≡ streamLength w H v
     unfolding streamLength
@@ -139,24 +140,24 @@ module _ (w H : ℕ) (v : Coefs) (work : List ℤ) (h : Holds w H v work) where
     sizes-narrow r =
         record {
           group = λ g a.
-              let n = both-none (each (λ g. each (checked g) (entries (groupAt g))) 5) (each (λ g. on (ltb 268435440 (16 * groupUnits w H v g)) 26) 5) r .1 in
+              let n = both-none (each (λ g. each (checked g) (entries (numbered g))) 5) (each (λ g. on (ltb 268435440 (16 * groupUnits w H v g)) 26) 5) r .1 in
               omega (arith, group-is g a, ltb-false 268435440 (16 * groupUnits w H v g) (not-on _ 25 (each-zero (λ g. on (ltb 268435440 (16 * groupUnits w H v g)) 26) g 5 n a)));
         }
 
   -- and each packet's records theirs
   pub records-short : lengthsRefusal w H v ≡ 0 → (p : ℕ) → p < 13 → refusalIn w H work p ≡ 0
   unfolding lengthsRefusal
-  records-short r p l = each-zero (refusalIn w H work) p 13 (records-refusal ∙ both-none (each (λ g. each (checked g) (entries (groupAt g))) 5) (each (λ g. on (ltb 268435440 (16 * groupUnits w H v g)) 26) 5) r .0) l
+  records-short r p l = each-zero (refusalIn w H work) p 13 (records-refusal ∙ both-none (each (λ g. each (checked g) (entries (numbered g))) 5) (each (λ g. on (ltb 268435440 (16 * groupUnits w H v g)) 26) 5) r .0) l
 
 -- ---- the 13 packets have their places in groups, and in the sum
-entry-in : (p : ℕ) → p < 13 → p % 3 < entries (groupAt (p / 3))
+entry-in : (p : ℕ) → p < 13 → p % 3 < entries (numbered (p / 3))
 entry-in p h =
     ⊎-elim
     (λ (a : 4 ≤ p / 3). let e = entries-one (p / 3) a in omega arith)
     (λ (a : p / 3 < 4). let e = entries-three (p / 3) a in omega arith)
     (le-or-lt 4 (p / 3))
 
-all-sums : (f : ℕ → ℕ → ℕ) → sum (λ p. f (p / 3) (p % 3)) 13 ≡ sum (λ g. sum (f g) (entries (groupAt g))) 5
+all-sums : (f : ℕ → ℕ → ℕ) → sum (λ p. f (p / 3) (p % 3)) 13 ≡ sum (λ g. sum (f g) (entries (numbered g))) 5
 unfolding sum
 all-sums f = omega arith
 
@@ -171,7 +172,7 @@ module _ (w H : ℕ) (v : Coefs) (work : List ℤ) (h : Holds w H v work) where
 
   pub sum-is : 128 + 16 * sum (unitsIn w H work) 13 ≡ streamLength w H v
   unfolding streamLength groupUnits
-  sum-is = ap (λ (n : ℕ). 128 + 16 * n) (sum-same _ _ 13 unit-is ∙ all-sums (λ g k. packetUnits w H v (groupAt g) (colourAt k)))
+  sum-is = ap (λ (n : ℕ). 128 + 16 * n) (sum-same _ _ 13 unit-is ∙ all-sums (λ g k. packetUnits w H v (numbered g) (indexed k)))
 
   pub short : lengthsRefusal w H v ≡ 0 → Short w H work
   unfolding groupUnits lengthsRefusal
@@ -179,10 +180,10 @@ module _ (w H : ℕ) (v : Coefs) (work : List ℤ) (h : Holds w H v work) where
       record {
         records = records-short w H v work h r;
         units = λ p l.
-            let n = both-none (each (λ g. each (checked w H v work h g) (entries (groupAt g))) 5) (each (λ g. on (ltb 268435440 (16 * groupUnits w H v g)) 26) 5) r .1 in
+            let n = both-none (each (λ g. each (checked w H v work h g) (entries (numbered g))) 5) (each (λ g. on (ltb 268435440 (16 * groupUnits w H v g)) 26) 5) r .1 in
             let g : p / 3 < 5 = omega arith in
             let m = ltb-false 268435440 (16 * groupUnits w H v (p / 3)) (not-on _ 25 (each-zero (λ g. on (ltb 268435440 (16 * groupUnits w H v g)) 26) (p / 3) 5 n g)) in
-            let k = sum-some (λ k. packetUnits w H v (groupAt (p / 3)) (colourAt k)) (entries (groupAt (p / 3))) (p % 3) (entry-in p l) in
+            let k = sum-some (λ k. packetUnits w H v (numbered (p / 3)) (indexed k)) (entries (numbered (p / 3))) (p % 3) (entry-in p l) in
             omega (arith, unit-is p l, m, k);
       }
 

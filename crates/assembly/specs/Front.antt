@@ -7,7 +7,8 @@ use lib.ListN.{length, getD}
 use lib.Dec.{ltb}
 use Rattle.lists.specs.Lists.{rows}
 use Rattle.format.specs.Packets.{sum}
-use Rattle.format.specs.Writing.{numberBits, zeroBits, groupAt, entries}
+use Rattle.format.specs.Sizes.{numbered}
+use Rattle.format.specs.Writing.{numberBits, zeroBits, entries}
 
 -- 13 numbers, so small that no sum of them wraps
 pub record Units (u : List ℕ) : Type 0 where
@@ -20,13 +21,13 @@ module _ (u : List ℕ) where
   unitsAt g k = getD u (3 * g + k) 0
 
   unfoldable pub groupOf : ℕ → ℕ
-  groupOf g = sum (unitsAt g) (entries (groupAt g))
+  groupOf g = sum (unitsAt g) (entries (numbered g))
 
   unfoldable pub entryOf : ℕ → ℕ → ℕ
-  entryOf g k = cond (ltb k (entries (groupAt g))) (unitsAt g k) 0
+  entryOf g k = cond (ltb k (entries (numbered g))) (unitsAt g k) 0
 
   unfoldable pub blockOf : ℕ → List ℕ
-  blockOf g = zeroBits 4 ++ (numberBits 4 (entries (groupAt g)) ++ rows 5 (λ k. numberBits 24 (entryOf g k)))
+  blockOf g = zeroBits 4 ++ (numberBits 4 (entries (numbered g)) ++ rows 5 (λ k. numberBits 24 (entryOf g k)))
 
   -- the group sizes, and the blocks
   abbrev pub sizesOf : ℕ → List ℕ

@@ -6,10 +6,10 @@ use Prim.Native.Nat.{ℕ, _+_, _*_, _/_, _%_, _^_, _≤_, _<_}
 use lib.IntN.{ℤ}
 use lib.ListN.{length}
 use Rattle.lists.specs.Lists.{tab, part}
-use Rattle.format.specs.Sizes.{Colour, index, l1, l2, l3, Group, base, detail, final, present, multiplier, components, columns}
+use Rattle.format.specs.Sizes.{Colour, index, l1, l2, l3, Group, base, detail, final, present, multiplier, components, columns, numbered, indexed}
 use Rattle.format.specs.Coefficients.{Coefs}
 use Rattle.format.specs.Numbers.{packetRows, packetNumbers}
-use Rattle.format.specs.Writing.{groupAt, colourAt, records, packetUnits, lengthsRefusal, streamLength}
+use Rattle.format.specs.Writing.{records, packetUnits, lengthsRefusal, streamLength}
 use Rattle.encoding.specs.Wrote.{Small, line}
 use Rattle.assembly.specs.declared.Sizes.{Sizes}
 use Rattle.assembly.specs.declared.packet.Shape.{Shape}
@@ -49,10 +49,10 @@ pub record Holds (w H : ℕ) (v : Coefs) (work : List ℤ) : Type 0 where
 
 -- the 13 packets in the order of the stream: their groups and colours
 abbrev pub groupIn : ℕ → Group
-groupIn p = groupAt (p / 3)
+groupIn p = numbered (p / 3)
 
 abbrev pub colourIn : ℕ → Colour
-colourIn p = colourAt (p % 3)
+colourIn p = indexed (p % 3)
 
 -- the shape of packet p; what is read off the work slice of it: its numbers, units, refusal and bits
 abbrev pub shapeIn : ℕ → ℕ → ℕ → Shape

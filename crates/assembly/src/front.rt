@@ -5,7 +5,8 @@ ghost use lib.ListN.{length};
 ghost use lib.Dec.{ltb};
 ghost use Rattle.format.specs.Packets.{sum};
 ghost use Rattle.format.specs.Refusals.{on, each};
-ghost use Rattle.format.specs.Writing.{groupAt, entries, packed};
+ghost use Rattle.format.specs.Sizes.{numbered};
+ghost use Rattle.format.specs.Writing.{entries, packed};
 ghost use Rattle.encoding.specs.Wrote.{fresh, Room, Appends};
 ghost use Rattle.assembly.specs.Front.{Units, Narrow, groupOf, entryOf, blockOf, sizesOf, blocksOf, namedOf, frontOf};
 use crate::packet::over;
@@ -18,7 +19,7 @@ const MOST: u64 = 268_435_440;
 
 // The packets of a group.
 fn entries(group: usize) -> usize
-    ensures { λ r. ⌜ (r ≡ entries (groupAt group)) × (1 ≤ r) × (r ≤ 3) × (group < 5 → 3 * group + r ≤ 13) ⌝ }
+    ensures { λ r. ⌜ (r ≡ entries (numbered group)) × (1 ≤ r) × (r ≤ 3) × (group < 5 → 3 * group + r ≤ 13) ⌝ }
 {
     if group < 4 { 3 } else { 1 }
 }
@@ -133,13 +134,15 @@ fn put_named(out: &mut [u8], w: usize, h: usize) -> BitWriter
     e.put(out, 16, 0x6C00)
 }
 
-// Writes the header and the directory over the whole of `out`.
+// Writes the header and the directory over the whole of `out`. The 17 bytes of zeros are counted off its length: of a constant the compiler
+// makes 17 turns at once, and takes minutes over them.
 pub fn put_front(out: &mut [u8], w: usize, h: usize, units: &[u64])
     requires { ⌜ Units (now units) × Narrow (now units) × (w < 2 ^ 16) × (h < 2 ^ 16) × (length (now out) ≡ 128) ⌝ }
     ensures { λ _. ⌜ now (out .exit) ≡ packed (frontOf w h (now (units .entry))) ⌝ }
 {
+    let zeros = out.len() - 111;
     let a = put_named(out, w, h);
     let b = put_sizes(a, out, units);
-    let c = put_zeros(b, out, 17);
+    let c = put_zeros(b, out, zeros);
     put_blocks(c, out, units);
 }

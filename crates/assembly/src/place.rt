@@ -1,51 +1,23 @@
 // The packets of a tile in the work slice: their shapes, and where they stand.
 ghost use mathlib.Core.Path.{_≡_};
 ghost use Prim.Native.Nat.{_+_, _*_, _^_, _<_, _≤_};
-ghost use Rattle.format.specs.Writing.{groupAt, colourAt};
+ghost use Rattle.format.specs.Sizes.{numbered, indexed};
 ghost use Rattle.assembly.specs.Tile.{unitOf, packetAt, shapeOf, groupIn, colourIn, shapeIn};
 use crate::packet::Shape;
+use fields::columns;
+use fields::components;
+use fields::multiplier;
 use fields::stripes;
 
 // The shape of the packets of a group: components, rows and columns of their records.
 pub fn shape(group: usize, w: usize, records: usize) -> Shape
-    ensures { λ r. ⌜ r ≡ shapeOf w records (groupAt group) ⌝ }
+    ensures { λ r. ⌜ r ≡ shapeOf w records (numbered group) ⌝ }
 {
-    if group == 0 {
-        return Shape {
-            components: 1,
-            rows: 1,
-            cols: w / 16,
-            records,
-        };
-    }
-    if group == 1 {
-        return Shape {
-            components: 3,
-            rows: 3,
-            cols: w / 16,
-            records,
-        };
-    }
-    if group == 2 {
-        return Shape {
-            components: 3,
-            rows: 6,
-            cols: w / 8,
-            records,
-        };
-    }
-    if group == 3 {
-        return Shape {
-            components: 3,
-            rows: 12,
-            cols: w / 4,
-            records,
-        };
-    }
+    let c = components(group);
     Shape {
-        components: 1,
-        rows: 8,
-        cols: w / 2,
+        components: c as u64,
+        rows: c * multiplier(group),
+        cols: columns(w, group),
         records,
     }
 }
@@ -53,7 +25,7 @@ pub fn shape(group: usize, w: usize, records: usize) -> Shape
 // Where the packet of an index in a group stands.
 pub fn packet_at(group: usize, index: usize, unit: usize) -> usize
     requires { ⌜ (index < 3) × (unit < 2 ^ 24) ⌝ }
-    ensures { λ r. ⌜ (r ≡ packetAt unit (groupAt group) (colourAt index)) × (r < 2 ^ 32) ⌝ }
+    ensures { λ r. ⌜ (r ≡ packetAt unit (numbered group) (indexed index)) × (r < 2 ^ 32) ⌝ }
 {
     let start = index * (64 * unit);
     if group == 0 {

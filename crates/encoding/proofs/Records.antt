@@ -20,14 +20,10 @@ use Rattle.lists.proofs.Rows.{rows-same}
 use Rattle.encoding.specs.Wrote.{Small, Appends, line}
 use Rattle.encoding.specs.Record.{total, rowsIn, recordIn}
 use Rattle.encoding.specs.declared.BitWriter.{BitWriter}
+use Rattle.format.proofs.TurnLaws.{sum-same}
 use Rattle.encoding.proofs.Pushed.{appends-both}
 
 -- ---- sums
-pub sum-same : (f g : ℕ → ℕ) (n : ℕ) → ((k : ℕ) → k < n → f k ≡ g k) → sum f n ≡ sum g n
-unfolding sum
-sum-same f g zero h = refl
-sum-same f g (suc n) h = rw (sum-same f g n (λ k l. h k (omega arith)), h n (omega arith))
-
 pub sum-add : (f : ℕ → ℕ) (a b : ℕ) → sum f (a + b) ≡ sum f a + sum (λ k. f (a + k)) b
 unfolding sum
 sum-add f a zero = let e : a + 0 ≡ a = omega arith in rw e (omega arith)

@@ -2,7 +2,7 @@
 use mathlib.Core.Path.{_≡_, refl, sym, ap, _∙_, subst, transport}
 use mathlib.Core.Bool.{Bool}
 use mathlib.Core.List.{List, _++_}
-use mathlib.Core.Logic.{_⊎_, inr, ⊎-elim}
+use mathlib.Core.Logic.{inr, ⊎-elim}
 use Prim.Native.Nat.{ℕ, _+_, _-_, _*_, _≤_, _<_}
 use native.Mathlib.Nat.{mul-le-mul-right}
 use native.Mathlib.Omega.{arith}
@@ -24,7 +24,7 @@ use Rattle.undoing.specs.Down as down
 use Rattle.returning.specs.Return.{packetSize, Numbers, Beside, Given, BandsReturned}
 use Rattle.returning.proofs.Recovered.{numbers-none}
 use Rattle.returning.specs.declared.Undone.{Undone}
-use Rattle.recovery.specs.Recovered.{RowsAt, Ready, scratchAt, scratchSize, llPlace, llStep, LevelRows, LowRows, none, LevelBack}
+use Rattle.recovery.specs.Recovered.{RowsAt, Ready, scratchAt, scratchSize, llPlace, llStep, LevelReady, LevelRows, LowRows, none, LevelBack}
 
 -- ---- where low y and high y stand, row by row; none stands behind the last row
 pub low-row : (d : Lead) (to t y : ℕ) → to + lowAt d y * t ≡ to + lowAt d 0 * t + y * (2 * t)
@@ -118,7 +118,7 @@ module _ (z : Plan) (place : ℕ) (l : Level) (odd : Bool) (from s to t : ℕ) (
     in-scratch : (k : ℕ) → k ≤ h + m - 1 → to + k * t + 2 * c ≤ scratchAt z + scratchSize z
     in-scratch k b = omega (arith, mul-le-mul-right t b, room)
 
-    module _ (ready : Ready (lead (z .guarded) l) h m c from s to t a (a + packetSize z (detail l)) before mid u) where
+    module _ (ready : LevelReady z place l from s to t before mid u) where
       -- its rows are clean
       pub clean : (n : ℕ) → scratchAt z + scratchSize z ≤ n → Beside z place l u n
       clean n long = record {

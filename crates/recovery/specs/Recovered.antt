@@ -9,7 +9,7 @@ use Rattle.lists.specs.Lists.{Apart, part, tab}
 use Rattle.format.specs.Coefficients.{zeros}
 use Rattle.format.specs.Lifting.{Plane, Lead}
 use Rattle.format.specs.Sizes.{Colour, green, index, Level, l1, l2, l3, base, detail, final, columns, planeRows}
-use Rattle.format.specs.Table.{height, highs, hl, lh, hh, mode}
+use Rattle.format.specs.Table.{height, lead, highs, hl, lh, hh, mode}
 use Rattle.format.specs.Recovery.{readPlane, dOf, llOf, bandOf, unstep, unband, summedBack, liftedBack, outOf, pickedBack}
 use Rattle.format.specs.Writing.{tooLarge, places, indexRefusal}
 use Rattle.passes.specs.declared.Plan.{Plan}
@@ -61,6 +61,13 @@ pub record Block (z : Plan) (place n : ℕ) : Type 0 where
   pub all : z .slots ≡ z .n + 1
   pub front : place + 64 * unitOf z ≤ scratchAt z
   pub room : scratchAt z + scratchSize z ≤ n
+
+-- level l of a block undone into rows from `to` on, each t behind the one before it, and the places of its packet cleared
+abbrev pub LevelReady : Plan → ℕ → Level → ℕ → ℕ → ℕ → ℕ → List ℤ → List ℤ → Undone → Type 0
+LevelReady z place l from s to t before after u =
+    let h = height (z .guarded) (z .n) l in
+    let a = groupAt z place (detail l) in
+    Ready (lead (z .guarded) l) h (highs (z .guarded) l h) (columns (z .w) (detail l)) from s to t a (a + packetSize z (detail l)) before after u
 
 -- the rows of what came out of level l, from `from` on, each s behind the one before it; those of its ll; those of what came out of all three
 abbrev pub LevelRows : Plan → Level → ℕ → ℕ → Plane → List ℤ → Type 0

@@ -14,7 +14,6 @@ use Rattle.format.specs.Numbers.{packetRows, packetNumbers}
 use Rattle.format.specs.Writing.{records, numbersRefusal, planesRefusal}
 use Rattle.format.proofs.TurnLaws.{stops}
 use Rattle.format.proofs.Exact.{tall-of}
-use Rattle.returning.specs.Return.{Numbers}
 use Rattle.recovery.specs.Recovered.{Room, Recovered}
 use Rattle.assembly.specs.Tile.{Holds, packetIn}
 use Rattle.assembly.proofs.Mild.{small-coefs}

@@ -134,10 +134,10 @@ fn write_planes(
         guarded,
         slots,
     };
-    let refusal = recover(work, z, full, red, blue);
-    if refusal != 0 {
+    let numbers = recover(work, z, full, red, blue);
+    if numbers != 0 {
         clear(work);
-        return refused(refusal);
+        return refused(numbers);
     }
     let r = write_coefficients(work, w, h, stream);
     clear(work);

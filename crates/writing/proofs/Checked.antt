@@ -2,7 +2,7 @@
 use mathlib.Core.Path.{_≡_, refl, sym, ap, subst}
 use mathlib.Core.List.{List}
 use mathlib.Core.Bool.{Bool, true, false, not, _&&_, _||_, true≢false}
-use Prim.Native.Nat.{ℕ, zero, suc, _-_, _*_, _/_, _%_, _^_, _≤_, _<_}
+use Prim.Native.Nat.{ℕ, zero, suc, _*_, _/_, _%_, _^_, _≤_, _<_}
 use native.Mathlib.Omega.{arith}
 use lib.IntN.{ℤ, pos, negsuc, natAbs}
 use lib.Dec.{eqb, ltb}
@@ -14,12 +14,12 @@ use Rattle.wrap32.specs.Edge.{eqZ, edgeDetail}
 use Rattle.wrap32.specs.Arithmetic.{wrapping}
 use Rattle.wrap32.proofs.Laws.{of-cond, cut-fits}
 use Rattle.format.specs.Lifting.{Plane}
-use Rattle.format.specs.Sizes.{Colour, green, red, blue, Level, l1, l2, l3, Group, base, detail, final, stripes, guarded, columns, planeRows}
+use Rattle.format.specs.Sizes.{Colour, green, red, blue, Level, l1, l2, l3, Group, base, detail, final, stripes, guarded, columns, planeRows, numbered, indexed}
 use Rattle.format.specs.Table.{height, highs, Source, S, E, Band, hl, lh, hh, source, bandRows, mode, chosen, fromComponent, fromRow}
 use Rattle.format.specs.Refusals.{on, each, largeRefusal, shortRefusal}
 use Rattle.format.specs.Coefficients.{Coefs}
 use Rattle.format.specs.Recovery.{readPlane, dOf, back, seek, differences, unstep, given, unband, summedBack, liftedBack, outOf, pickedBack, recover}
-use Rattle.format.specs.Writing.{groupAt, colourAt, entries, records, recordBytes, groupUnits, sideRefusal, tooLarge, tooFar, bandRefusal, places, stepAt, levelRefusal, bandsRefusal, indexRefusal, numbersRefusal, lengthsRefusal, callRefusal}
+use Rattle.format.specs.Writing.{entries, records, recordBytes, groupUnits, sideRefusal, tooLarge, tooFar, bandRefusal, places, stepAt, levelRefusal, bandsRefusal, indexRefusal, numbersRefusal, lengthsRefusal, callRefusal}
 use Rattle.format.proofs.TurnLaws.{both-none, each-zero, not-on, on-not, or-false}
 use Rattle.writing.proofs.Again.{redone}
 
@@ -55,21 +55,31 @@ module _ (w H greenN redN blueN workN : ℕ) (h : callRefusal w H greenN redN bl
       let narrow : w ≤ 65535 = ltb-false 65535 w (e4 .1) in
       record { narrow = omega arith; whole = whole; wide = omega (arith, eqb-false w 0 (e5 .0)); even = even; tall = tall; low = low; large = z .0; lent = b .0 }
 
+-- another call of that size is not refused, if its slices are long enough
+pub call-again : (w H greenN redN blueN workN greenM redM blueM workM : ℕ) → callRefusal w H greenN redN blueN workN ≡ 0
+    → shortRefusal w H greenM redM blueM workM ≡ 0 → callRefusal w H greenM redM blueM workM ≡ 0
+unfolding callRefusal
+call-again w H greenN redN blueN workN greenM redM blueM workM h lent =
+    let a = both-none (sideRefusal w H) _ h in
+    let b = both-none (largeRefusal w H) _ (a .1) in
+    let c = both-none (shortRefusal w H greenN redN blueN workN) _ (b .1) in
+    rw (a .0, b .0, lent) (c .1)
+
 -- ---- lengths
 module _ (w H : ℕ) (v : Coefs) (h : lengthsRefusal w H v ≡ 0) where
-  pub short : (g k r : ℕ) → g < 5 → k < entries (groupAt g) → r < records H → recordBytes w H v (groupAt g) (colourAt k) r < 2 ^ 16
+  pub short : (g k r : ℕ) → g < 5 → k < entries (numbered g) → r < records H → recordBytes w H v (numbered g) (indexed k) r < 2 ^ 16
   unfolding lengthsRefusal
   short g k r a b c =
-      let p = both-none (each (λ g. each (λ k. each (λ r. on (ltb 65535 (recordBytes w H v (groupAt g) (colourAt k) r)) 26) (records H)) (entries (groupAt g))) 5) _ h in
+      let p = both-none (each (λ g. each (λ k. each (λ r. on (ltb 65535 (recordBytes w H v (numbered g) (indexed k) r)) 26) (records H)) (entries (numbered g))) 5) _ h in
       let q = each-zero _ g 5 (p .0) a in
-      let s = each-zero _ k (entries (groupAt g)) q b in
+      let s = each-zero _ k (entries (numbered g)) q b in
       let t = each-zero _ r (records H) s c in
-      omega (arith, ltb-false 65535 (recordBytes w H v (groupAt g) (colourAt k) r) (not-on _ 25 t))
+      omega (arith, ltb-false 65535 (recordBytes w H v (numbered g) (indexed k) r) (not-on _ 25 t))
 
   pub groups : (g : ℕ) → g < 5 → groupUnits w H v g < 2 ^ 24
   unfolding lengthsRefusal
   groups g a =
-      let p = both-none (each (λ g. each (λ k. each (λ r. on (ltb 65535 (recordBytes w H v (groupAt g) (colourAt k) r)) 26) (records H)) (entries (groupAt g))) 5) _ h in
+      let p = both-none (each (λ g. each (λ k. each (λ r. on (ltb 65535 (recordBytes w H v (numbered g) (indexed k) r)) 26) (records H)) (entries (numbered g))) 5) _ h in
       let q = each-zero (λ g. on (ltb 268435440 (16 * groupUnits w H v g)) 26) g 5 (p .1) a in
       omega (arith, ltb-false 268435440 (16 * groupUnits w H v g) (not-on _ 25 q))
 

@@ -12,4 +12,7 @@ pub mod StreamBack
 pub mod Decoded
 pub mod Packed
 pub mod Checked
+pub mod SamePlanes
+pub mod SameStream
 pub mod Theorems
+pub mod Twice

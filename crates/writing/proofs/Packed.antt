@@ -13,10 +13,11 @@ use Rattle.lists.specs.Lists.{tab, rows}
 use Rattle.lists.proofs.Tab.{getD-tab, length-tab}
 use Rattle.format.specs.Bits.{bitAt}
 use Rattle.format.specs.Reader.{bitLength}
-use Rattle.format.specs.Sizes.{components}
+use Rattle.format.specs.Sizes.{components, numbered}
 use Rattle.format.specs.Lifting.{Signal, Plane}
 use Rattle.format.specs.Coefficients.{Coefs}
-use Rattle.format.specs.Writing.{numberBits, zeroBits, unaryBits, updateBits, runBits, signBits, groupWidth, zeroGroups, nextBits, afterRun, groupsBits, padded, rowBits, recordRow, magnitudes, recordBits, units, filled, wholeRecord, recordHead, packetHead, packetBits, groupBits, groupAt, blockBits, headerBits, streamBits, byteAt, packed}
+use Rattle.format.specs.Writing.{numberBits, zeroBits, unaryBits, updateBits, runBits, signBits, groupWidth, zeroGroups, nextBits, afterRun, groupsBits, padded, rowBits}
+use Rattle.format.specs.Writing.{recordRow, magnitudes, recordBits, units, filled, wholeRecord, recordHead, packetHead, packetBits, groupBits, blockBits, headerBits, streamBits, byteAt, packed}
 use Rattle.format.proofs.BitLaws.{le-or-lt}
 use Rattle.writing.proofs.Standing.{Stand}
 
@@ -112,7 +113,7 @@ module _ (w H : ℕ) (v : Coefs) where
       (number _ _ and zeros 32 and number _ _ and number _ _ and number _ _ and number _ _ and all-rows 5 _ (λ g. number _ _) and zeros 136)
       and all-rows 5 _ (λ g. zeros 4 and number _ _ and all-rows 5 _ (λ k. number _ _))
       and all-rows 5 _ (λ g. all-rows _ _ (λ k.
-      fill 128 _ ((number _ _ and number _ _ and number _ _ and zeros 4 and number _ _ and zeros 6 and number _ _ and number _ _ and zeros 8 and zeros 40) and all-rows _ _ (λ r. number _ _ and zeros (4 * components (groupAt g))))
+      fill 128 _ ((number _ _ and number _ _ and number _ _ and zeros 4 and number _ _ and zeros 6 and number _ _ and number _ _ and zeros 8 and zeros 40) and all-rows _ _ (λ r. number _ _ and zeros (4 * components (numbered g))))
       and fill 128 _ (all-rows _ _ (λ r. fill 8 _ (whole _ _ _ _ _)))))
 
 -- ---- eight bits in a byte

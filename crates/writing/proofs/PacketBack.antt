@@ -12,18 +12,18 @@ use Rattle.lists.specs.Lists.{tab, rows}
 use Rattle.lists.proofs.Rows.{length-rows}
 use Rattle.format.specs.Sizes.{Colour, l1, l2, l3, Group, base, detail, final, multiplier, components, columns}
 use Rattle.format.specs.Packets.{sum, control, extra, tag, zero4, kind, zero6, blocks, marker, zero8, padding, recordBit, recordLength, selector, payloadAt}
-use Rattle.format.specs.Reader.{startOf}
-use Rattle.format.specs.Coefficients.{Coefs, Stretch, codedRecord, recordOf}
+use Rattle.format.specs.Reader.{Reader, startOf}
+use Rattle.format.specs.Coefficients.{Coefs, Stretch, Part, rowsOf, codedRecord, recordOf}
 use Rattle.format.specs.Writing.{numberBits, zeroBits, rowBits, recordRow, magnitudes, recordBits, units, filled, records, wholeRecord, recordBytes, recordHead, headUnits, payloadUnits, packetHead, packetBits, packetUnits}
 use Rattle.encoding.proofs.Widths.{length-number}
+use Rattle.format.proofs.TurnLaws.{sum-same}
+use Rattle.encoding.proofs.Records.{length-filled}
 use Rattle.writing.proofs.Standing.{Stand, stand-left, stand-right, stand-rows, next-number, next-zeros, zeros-part, zeros-stand, At, past}
+use Rattle.format.specs.Used.{recordUsed}
+use Rattle.format.proofs.UsedLaws.{used-left}
 use Rattle.writing.proofs.RecordBack.{all-back, zero-record, rows-some}
 
 -- ---- bits filled up to whole units
-pub length-filled8 : (b : List ℕ) → length (filled 8 b) ≡ 8 * units 8 b
-unfolding filled
-length-filled8 b = length-append b (zeroBits (units 8 b * 8 - length b)) ∙ omega (arith, length-replicate {A = ℕ} (units 8 b * 8 - length b) 0)
-
 pub length-filled128 : (b : List ℕ) → length (filled 128 b) ≡ 128 * units 128 b
 unfolding filled
 length-filled128 b = length-append b (zeroBits (units 128 b * 128 - length b)) ∙ omega (arith, length-replicate {A = ℕ} (units 128 b * 128 - length b) 0)
@@ -33,11 +33,6 @@ unfolding filled
 stand-filled s p k b h = stand-left s p b (zeroBits (units k b * k - length b)) h
 
 -- ---- sums
-pub sum-same : (f g : ℕ → ℕ) (n : ℕ) → ((k : ℕ) → k < n → f k ≡ g k) → sum f n ≡ sum g n
-unfolding sum
-sum-same f g zero e = refl
-sum-same f g (suc n) e = rw (sum-same f g n (λ k l. e k (omega arith)), e n (omega arith))
-
 pub length-of-rows : (g : ℕ → List ℕ) (f : ℕ → ℕ) (c n : ℕ) → ((k : ℕ) → length (g k) ≡ c * f k) → length (rows n g) ≡ c * sum f n
 unfolding rows sum
 length-of-rows g f c zero e = omega arith
@@ -96,7 +91,7 @@ module _ (w H : ℕ) (v : Coefs) (g : Group) (i : Colour) where
 
   length-whole : (k : ℕ) → length (wholeRecord w H v g i k) ≡ 8 * recordBytes w H v g i k
   unfolding wholeRecord
-  length-whole k = length-filled8 _
+  length-whole k = length-filled _
 
   length-payload : length (filled 128 (rows (records H) (wholeRecord w H v g i))) ≡ 128 * payloadUnits w H v g i
   unfolding payloadUnits
@@ -229,18 +224,54 @@ module _ (w H : ℕ) (v : Coefs) (g : Group) (i : Colour) where
             let z : recordLength p k ≡ 0 = length-read k l ∙ rw (eq-eqb (magnitudes (v g i) m cols n k) 0 e) (omega arith) in
             rw (eq-eqb (recordLength p k) 0 z, read .kind, zero-record (v g i) m cols n k e)
 
-        some-written : (magnitudes (v g i) m cols n k ≡ 0 → ⊥) → recordOf p m cols k ≡ wanted
-        unfolding recordOf codedRecord recordBits past
-        some-written e =
-            let b : recordBits (v g i) m cols n k ≡ rowsAll = rw (ne-eqb (magnitudes (v g i) m cols n k) 0 e) in
-            let bytes : recordLength p k ≡ units 8 rowsAll = length-read k l ∙ ap (units 8) b in
-            let long = rows-some n cols (recordRow (v g i) m k) (some-rows g) in
-            let start = startOf (payloadAt p k) (recordLength p k) in
-            let here : At p start rowsAll = record { stand = rw b at (stand-record k l); room = omega (arith, bytes); sound = refl } in
-            let back = all-back p (selector p k) m cols (columns-fit g) (recordRow (v g i) m k) n start
-            (λ q a. selector-read k (q / m) l (component-lt g q a))
-            (λ q x a c. small (q / m) (k * m + q % m) x (component-lt g q a) (row-lt g k (records H) q l) c) here in
-            rw (ne-eqb (recordLength p k) 0 (λ j. omega (arith, bytes, long)), read .kind, back)
+        module _ (e : magnitudes (v g i) m cols n k ≡ 0 → ⊥) where
+          abbrev start : Reader
+          start = startOf (payloadAt p k) (recordLength p k)
+
+          bits-are : recordBits (v g i) m cols n k ≡ rowsAll
+          unfolding recordBits
+          bits-are = rw (ne-eqb (magnitudes (v g i) m cols n k) 0 e)
+
+          bytes : recordLength p k ≡ units 8 rowsAll
+          bytes = length-read k l ∙ ap (units 8) bits-are
+
+          some-bytes : recordLength p k ≡ 0 → ⊥
+          some-bytes j = omega (arith, bytes, rows-some n cols (recordRow (v g i) m k) (some-rows g), j)
+
+          here : At p start rowsAll
+          here = record { stand = rw bits-are at (stand-record k l); room = omega (arith, bytes); sound = refl }
+
+          back : rowsOf p (selector p k) m cols n 0 start ≡ record { values = rows n (λ q. tab cols (recordRow (v g i) m k q)); reader = past start rowsAll }
+          back =
+              all-back p (selector p k) m cols (columns-fit g) (recordRow (v g i) m k) n start
+              (λ q a. selector-read k (q / m) l (component-lt g q a))
+              (λ q x a c. small (q / m) (k * m + q % m) x (component-lt g q a) (row-lt g k (records H) q l) c) here
+
+          some-written : recordOf p m cols k ≡ wanted
+          unfolding recordOf codedRecord past
+          some-written = rw (ne-eqb (recordLength p k) 0 some-bytes, read .kind, back)
+
+          some-used : recordUsed p m cols k ≡ length (recordBits (v g i) m cols n k)
+          unfolding recordUsed past
+          some-used =
+              let left = used-left p (selector p k) m cols start refl n in
+              let end = ap (λ (t : Part). t .reader .remaining) back in
+              rw (ne-eqb (recordLength p k) 0 some-bytes, read .kind, bits-are) (omega (arith, left, end, here .room))
+
+        none-used : magnitudes (v g i) m cols n k ≡ 0 → recordUsed p m cols k ≡ length (recordBits (v g i) m cols n k)
+        unfolding recordUsed recordBits
+        none-used e =
+            let z : recordLength p k ≡ 0 = length-read k l ∙ rw (eq-eqb (magnitudes (v g i) m cols n k) 0 e) (omega arith) in
+            rw (eq-eqb (recordLength p k) 0 z, eq-eqb (magnitudes (v g i) m cols n k) 0 e) refl
+
+        -- the record takes exactly the bits that were written for it
+        pub record-used : recordUsed p m cols k ≡ length (recordBits (v g i) m cols n k)
+        record-used =
+            by (eqb (magnitudes (v g i) m cols n k) 0) refl
+          where
+            by : (b : Bool) → eqb (magnitudes (v g i) m cols n k) 0 ≡ b → recordUsed p m cols k ≡ length (recordBits (v g i) m cols n k)
+            by true e = none-used (eqb-true _ 0 e)
+            by false e = some-used (eqb-false _ 0 e)
 
         pub record-back : recordOf p m cols k ≡ wanted
         record-back =

@@ -162,7 +162,9 @@ module _ (s : List ℕ) (r : Reader) (g k : ℕ) (some : 0 < k) (most : k ≤ g)
       let small : e < 2 ^ z = omega (arith, pow-suc 2 z) in
       let fewer : z < bitLength (g - 1) = exponent-lt z (bitLength (g - 1)) (omega (arith, under-length (g - 1) (omega arith))) in
       let sum : min (2 ^ z + e) g ≡ k = omega arith in
-      rw (lt-leb g 1 (omega arith), find-unary s r (bitLength k) (bitLength (g - 1)) pos (omega arith) (at-left s r u (numberBits z e) h), lt-leb (bitLength (g - 1)) z fewer, sound-past s r u (h .sound), lt-leb g (2 ^ z) (omega arith), read-number s (past r u) z e small (at-right s r u (numberBits z e) h), sum)
+      let found = find-unary s r (bitLength k) (bitLength (g - 1)) pos (omega arith) (at-left s r u (numberBits z e) h) in
+      let number = read-number s (past r u) z e small (at-right s r u (numberBits z e) h) in
+      rw (lt-leb g 1 (omega arith), found, lt-leb (bitLength (g - 1)) z fewer, sound-past s r u (h .sound), lt-leb g (2 ^ z) (omega arith), number, sum)
       (both s r k u (numberBits z e))
 
   pub run-back : At s r (runBits g k) → runOf s r g ≡ got k r (runBits g k)

@@ -163,8 +163,10 @@ module _ (s : List ℕ) (f : Signal) (small : Small f) where
       let h2 = at-right s (past r M) N G h1 in
       let Q : Four = record { a = natAbs (f (4 * j)); b = natAbs (f (4 * j + 1)); c = natAbs (f (4 * j + 2)); d = natAbs (f (4 * j + 3)); reader = past r M } in
       let e : past (past (past r M) N) G ≡ past r (M ++ (N ++ G)) = past-both (past r M) N G ∙ past-both r M (N ++ G) in
-      rw
-      (four-back s (groupWidth f j) _ _ _ _ (held-0 f small j) (held-1 f small j) (held-2 f small j) (held-3 f small j) r (at-left s r M (N ++ G) h), next-back j g (past r M) (at-left s (past r M) N G h1), signs-back s (f (4 * j)) (f (4 * j + 1)) (f (4 * j + 2)) (f (4 * j + 3)) (past (past r M) N) Q refl refl refl refl h2, e)
+      let four = four-back s (groupWidth f j) _ _ _ _ (held-0 f small j) (held-1 f small j) (held-2 f small j) (held-3 f small j) r (at-left s r M (N ++ G) h) in
+      let next = next-back j g (past r M) (at-left s (past r M) N G h1) in
+      let signs = signs-back s (f (4 * j)) (f (4 * j + 1)) (f (4 * j + 2)) (f (4 * j + 3)) (past (past r M) N) Q refl refl refl refl h2 in
+      rw (four, next, signs, e)
 
   -- ---- g groups from group j on
   none-left : (turns j : ℕ) → groupsBits f turns j 0 ≡ []

@@ -9,11 +9,11 @@ use Rattle.lists.specs.Lists.{rows, part}
 use Rattle.lists.proofs.Rows.{length-rows}
 use Rattle.lists.proofs.Tab.{getD-part, length-part}
 use Rattle.format.specs.Bits.{bitAt, bitsAt}
-use Rattle.format.specs.Sizes.{Group, base, detail, final}
+use Rattle.format.specs.Sizes.{Group, base, detail, final, numbered, indexed}
 use Rattle.format.specs.Strip.{width, codedHeight, groupSize}
 use Rattle.format.specs.Packets.{sum, entryCount, blockSize, lengthPlace, entryLength, blockAt, groupStart, packetStart, packetLength, packetOf}
 use Rattle.format.specs.Coefficients.{Coefs}
-use Rattle.format.specs.Writing.{numberBits, zeroBits, groupAt, colourAt, entries, records, recordBytes, headUnits, packetBits, packetUnits, groupBits, groupUnits, entryUnits, blockBits, headerBits, streamBits, streamLength}
+use Rattle.format.specs.Writing.{numberBits, zeroBits, entries, records, recordBytes, headUnits, packetBits, packetUnits, groupBits, groupUnits, entryUnits, blockBits, headerBits, streamBits, streamLength}
 use Rattle.format.proofs.BitLaws.{bits-add}
 use Rattle.encoding.proofs.Widths.{length-number}
 use Rattle.writing.proofs.Standing.{Stand, stand-left, stand-right, stand-rows, next-number, next-zeros, number-stands}
@@ -35,7 +35,7 @@ sixteen f g zero e = refl
 sixteen f g (suc n) e = omega (arith, sixteen f g n (λ k l. e k (omega arith)), e n (omega arith))
 
 -- ---- what a stream must have for its fields to hold its numbers
-pub few-entries : (g : ℕ) → (0 < entries (groupAt g)) × (entries (groupAt g) ≤ 3)
+pub few-entries : (g : ℕ) → (0 < entries (numbered g)) × (entries (numbered g) ≤ 3)
 few-entries zero = omega arith
 few-entries (suc zero) = omega arith
 few-entries (suc (suc zero)) = omega arith
@@ -50,7 +50,7 @@ module _ (w H : ℕ) (v : Coefs) where
     pub even : H % 2 ≡ 0
     pub tall : 16 ≤ H
     pub low : H ≤ 32767
-    pub short : (g k r : ℕ) → g < 5 → k < entries (groupAt g) → r < records H → recordBytes w H v (groupAt g) (colourAt k) r < 2 ^ 16
+    pub short : (g k r : ℕ) → g < 5 → k < entries (numbered g) → r < records H → recordBytes w H v (numbered g) (indexed k) r < 2 ^ 16
     pub groups : (g : ℕ) → g < 5 → groupUnits w H v g < 2 ^ 24
 
   few-heads : (g : Group) → H ≤ 32767 → headUnits H g ≤ 2 ^ 16
@@ -59,15 +59,15 @@ module _ (w H : ℕ) (v : Coefs) where
   few-heads (detail k) l = omega arith
   few-heads final l = omega arith
 
-  pub packet-in : (g k : ℕ) → k < entries (groupAt g) → sum (λ j. packetUnits w H v (groupAt g) (colourAt j)) k + packetUnits w H v (groupAt g) (colourAt k) ≤ groupUnits w H v g
+  pub packet-in : (g k : ℕ) → k < entries (numbered g) → sum (λ j. packetUnits w H v (numbered g) (indexed j)) k + packetUnits w H v (numbered g) (indexed k) ≤ groupUnits w H v g
   unfolding groupUnits sum
-  packet-in g k l = sum-mono (λ j. packetUnits w H v (groupAt g) (colourAt j)) (suc k) (entries (groupAt g)) l
+  packet-in g k l = sum-mono (λ j. packetUnits w H v (numbered g) (indexed j)) (suc k) (entries (numbered g)) l
 
   module _ (f : Fits) where
-    pub fields : (g k : ℕ) → g < 5 → k < entries (groupAt g) → Fields w H v (groupAt g) (colourAt k)
+    pub fields : (g k : ℕ) → g < 5 → k < entries (numbered g) → Fields w H v (numbered g) (indexed k)
     unfolding packetUnits
     fields g k a b =
-        record { few = omega (arith, f .low); heads = few-heads (groupAt g) (f .low); payload = omega (arith, packet-in g k b, f .groups g a); short = λ r l. f .short g k r a b l }
+        record { few = omega (arith, f .low); heads = few-heads (numbered g) (f .low); payload = omega (arith, packet-in g k b, f .groups g a); short = λ r l. f .short g k r a b l }
 
     -- ---- lengths
     length-sizes : (g : ℕ) → length (rows g (λ j. numberBits 24 (groupUnits w H v j))) ≡ g * 24
@@ -88,13 +88,13 @@ module _ (w H : ℕ) (v : Coefs) where
     length-blocks : (g : ℕ) → length (rows g (blockBits w H v)) ≡ g * 128
     length-blocks g = length-rows 128 (blockBits w H v) length-block g
 
-    length-packets : (g k : ℕ) → length (rows k (λ j. packetBits w H v (groupAt g) (colourAt j))) ≡ 128 * sum (λ j. packetUnits w H v (groupAt g) (colourAt j)) k
+    length-packets : (g k : ℕ) → length (rows k (λ j. packetBits w H v (numbered g) (indexed j))) ≡ 128 * sum (λ j. packetUnits w H v (numbered g) (indexed j)) k
     length-packets g k =
-        length-of-rows (λ j. packetBits w H v (groupAt g) (colourAt j)) (λ j. packetUnits w H v (groupAt g) (colourAt j)) 128 k (λ j. length-packet w H v (groupAt g) (colourAt j))
+        length-of-rows (λ j. packetBits w H v (numbered g) (indexed j)) (λ j. packetUnits w H v (numbered g) (indexed j)) 128 k (λ j. length-packet w H v (numbered g) (indexed j))
 
     length-group : (g : ℕ) → length (groupBits w H v g) ≡ 128 * groupUnits w H v g
     unfolding groupBits groupUnits
-    length-group g = length-packets g (entries (groupAt g))
+    length-group g = length-packets g (entries (numbered g))
 
     length-groups : (g : ℕ) → length (rows g (groupBits w H v)) ≡ 128 * sum (groupUnits w H v) g
     length-groups g = length-of-rows (groupBits w H v) (groupUnits w H v) 128 g length-group
@@ -164,29 +164,29 @@ module _ (w H : ℕ) (v : Coefs) where
           rw e at (stand-rows s 384 5 (blockBits w H v) g l (stand-left s 384 (rows 5 (blockBits w H v)) (rows 5 (groupBits w H v)) stand-tail))
 
       module _ (g : ℕ) (l : g < 5) where
-        block-parts : (entryCount s (48 + 16 * g) ≡ entries (groupAt g)) × Stand s (8 * (48 + 16 * g) + 4 + 4) (rows 5 (λ k. numberBits 24 (entryUnits w H v g k)))
+        block-parts : (entryCount s (48 + 16 * g) ≡ entries (numbered g)) × Stand s (8 * (48 + 16 * g) + 4 + 4) (rows 5 (λ k. numberBits 24 (entryUnits w H v g k)))
         unfolding blockBits entryCount
         block-parts =
             let p = 8 * (48 + 16 * g) in
             let r2 = rows 5 (λ k. numberBits 24 (entryUnits w H v g k)) in
-            let r1 = numberBits 4 (entries (groupAt g)) ++ r2 in
+            let r1 = numberBits 4 (entries (numbered g)) ++ r2 in
             let a = next-zeros s p 4 r1 (stand-block g l) in
-            let b = next-number s (p + 4) 4 (entries (groupAt g)) r2 (omega (arith, few-entries g .1)) (a .1) in
+            let b = next-number s (p + 4) 4 (entries (numbered g)) r2 (omega (arith, few-entries g .1)) (a .1) in
             (omega (arith, bits-add s p 4 4, a .0, b .0, few-entries g .1), b .1)
 
-        pub count-read : entryCount s (48 + 16 * g) ≡ entries (groupAt g)
+        pub count-read : entryCount s (48 + 16 * g) ≡ entries (numbered g)
         count-read = block-parts .0
 
         pub block-16 : blockSize s (48 + 16 * g) ≡ 16
         unfolding blockSize
-        block-16 = rw (count-read, lt-leb 5 (entries (groupAt g)) (omega (arith, few-entries g .1)))
+        block-16 = rw (count-read, lt-leb 5 (entries (numbered g)) (omega (arith, few-entries g .1)))
 
-        pub length-read : (k : ℕ) → k < entries (groupAt g) → entryLength s (48 + 16 * g) k ≡ 16 * packetUnits w H v (groupAt g) (colourAt k)
+        pub length-read : (k : ℕ) → k < entries (numbered g) → entryLength s (48 + 16 * g) k ≡ 16 * packetUnits w H v (numbered g) (indexed k)
         unfolding entryLength lengthPlace entryUnits
         length-read k b =
             let five : k < 5 = omega (arith, few-entries g .1) in
             let e : 8 * (48 + 16 * g) + 4 + 4 + length (rows k (λ j. numberBits 24 (entryUnits w H v g j))) ≡ 8 * (48 + 16 * g + (1 + 3 * k)) = omega (arith, length-lengths g k) in
-            let u : entryUnits w H v g k ≡ packetUnits w H v (groupAt g) (colourAt k) = rw (lt-ltb k (entries (groupAt g)) b) in
+            let u : entryUnits w H v g k ≡ packetUnits w H v (numbered g) (indexed k) = rw (lt-ltb k (entries (numbered g)) b) in
             let n = number-stands s (8 * (48 + 16 * g + (1 + 3 * k))) 24 (entryUnits w H v g k) (omega (arith, packet-in g k b, f .groups g l, u)) (rw e at (stand-rows s _ 5 (λ j. numberBits 24 (entryUnits w H v g j)) k five (block-parts .1))) in
             rw (lt-ltb k 5 five) (omega (arith, n, u))
 
@@ -196,40 +196,40 @@ module _ (w H : ℕ) (v : Coefs) where
       block-at (suc g) l = rw (block-at g (omega arith), block-16 g l) (omega arith)
 
       -- ---- the packets
-      module _ (g k : ℕ) (l : g < 5) (b : k < entries (groupAt g)) where
-        pub packet-length : packetLength s g k ≡ 16 * packetUnits w H v (groupAt g) (colourAt k)
+      module _ (g k : ℕ) (l : g < 5) (b : k < entries (numbered g)) where
+        pub packet-length : packetLength s g k ≡ 16 * packetUnits w H v (numbered g) (indexed k)
         unfolding packetLength
         packet-length = rw (block-at g (omega arith)) (length-read g l k b)
 
-      pub start-read : (g k : ℕ) → g < 5 → k ≤ entries (groupAt g) → packetStart s g k ≡ 128 + 16 * sum (groupUnits w H v) g + 16 * sum (λ j. packetUnits w H v (groupAt g) (colourAt j)) k
+      pub start-read : (g k : ℕ) → g < 5 → k ≤ entries (numbered g) → packetStart s g k ≡ 128 + 16 * sum (groupUnits w H v) g + 16 * sum (λ j. packetUnits w H v (numbered g) (indexed j)) k
       unfolding packetStart groupStart
       start-read g k l b =
           let a = sixteen (groupSize s) (groupUnits w H v) g (λ j c. size-read j (omega arith)) in
-          let c = sixteen (entryLength s (48 + 16 * g)) (λ j. packetUnits w H v (groupAt g) (colourAt j)) k (λ j d. length-read g l j (omega arith)) in
+          let c = sixteen (entryLength s (48 + 16 * g)) (λ j. packetUnits w H v (numbered g) (indexed j)) k (λ j d. length-read g l j (omega arith)) in
           rw (block-at g (omega arith)) (omega (arith, a, c))
 
-      module _ (g k : ℕ) (l : g < 5) (b : k < entries (groupAt g)) where
-        stand-packet : Stand s (8 * packetStart s g k) (packetBits w H v (groupAt g) (colourAt k))
+      module _ (g k : ℕ) (l : g < 5) (b : k < entries (numbered g)) where
+        stand-packet : Stand s (8 * packetStart s g k) (packetBits w H v (numbered g) (indexed k))
         unfolding groupBits
         stand-packet =
-            let e : 1024 + length (rows g (groupBits w H v)) + length (rows k (λ j. packetBits w H v (groupAt g) (colourAt j))) ≡ 8 * packetStart s g k =
+            let e : 1024 + length (rows g (groupBits w H v)) + length (rows k (λ j. packetBits w H v (numbered g) (indexed j))) ≡ 8 * packetStart s g k =
             omega (arith, length-groups g, length-packets g k, start-read g k l (omega arith)) in
-            rw e at (stand-rows s _ (entries (groupAt g)) (λ j. packetBits w H v (groupAt g) (colourAt j)) k b (stand-rows s 1024 5 (groupBits w H v) g l stand-groups))
+            rw e at (stand-rows s _ (entries (numbered g)) (λ j. packetBits w H v (numbered g) (indexed j)) k b (stand-rows s 1024 5 (groupBits w H v) g l stand-groups))
 
         pub packet-ends : packetStart s g k + packetLength s g k ≤ length s
         unfolding streamLength sum
         packet-ends =
             omega (arith, start-read g k l (omega arith), packet-length g k l b, packet-in g k b, sum-mono (groupUnits w H v) (suc g) 5 l, long)
 
-        pub packet-size : length (packetOf s g k) ≡ 16 * packetUnits w H v (groupAt g) (colourAt k)
+        pub packet-size : length (packetOf s g k) ≡ 16 * packetUnits w H v (numbered g) (indexed k)
         unfolding packetOf
         packet-size = length-part s (packetStart s g k) (packetLength s g k) packet-ends ∙ packet-length g k l b
 
-        pub packet-stands : Stand (packetOf s g k) 0 (packetBits w H v (groupAt g) (colourAt k))
+        pub packet-stands : Stand (packetOf s g k) 0 (packetBits w H v (numbered g) (indexed k))
         unfolding packetOf
         packet-stands =
-            stand-part s (packetStart s g k) (packetLength s g k) (packetBits w H v (groupAt g) (colourAt k)) stand-packet
-            (omega (arith, length-packet w H v (groupAt g) (colourAt k), packet-length g k l b))
+            stand-part s (packetStart s g k) (packetLength s g k) (packetBits w H v (numbered g) (indexed k)) stand-packet
+            (omega (arith, length-packet w H v (numbered g) (indexed k), packet-length g k l b))
 
       pub size-width : width s ≡ w
       size-width = header .width

@@ -7,6 +7,7 @@ use Prim.Native.Nat.{ℕ, _+_, _*_, _^_, _≤_, _<_}
 use native.Mathlib.Omega.{arith}
 use lib.IntN.{ℤ, pos, natAbs}
 use lib.ListN.{length, getD, take, drop, length-append}
+use lib.Seq.{take-at}
 use borrow.Author.Tests.{eq-eqb}
 use mir.Syntax.{w16, w32}
 use mir.Val.{SFits}
@@ -16,11 +17,12 @@ use Rattle.format.specs.Sizes.{Colour, green, red, blue, l1, Group, base, detai
 use Rattle.format.specs.Strip.{width, codedHeight}
 use Rattle.format.specs.Table.{start, height, summed, lifted, picked}
 use Rattle.format.specs.Refusals.{shortRefusal, refusal}
-use Rattle.format.specs.Coefficients.{Coefs, coefs, stoppedOf}
+use Rattle.format.specs.Coefficients.{Coefs, coefs, tileSum, stoppedOf}
 use Rattle.format.specs.Counts.{brokenOf, spentOf}
+use Rattle.format.specs.Used.{bitsOf}
 use Rattle.format.specs.Synthesis.{planes}
 use Rattle.format.specs.Recovery.{recover}
-use Rattle.format.specs.Writing.{records, streamBits, streamLength, packed, streamOf, numbersRefusal, lengthsRefusal, callRefusal, planesRefusal, writeRefusal, streamLeft}
+use Rattle.format.specs.Writing.{records, recordsBits, streamBits, streamLength, streamOf, numbersRefusal, lengthsRefusal, callRefusal, planesRefusal, writeRefusal, streamLeft}
 use Rattle.format.proofs.TurnLaws.{both-none}
 use Rattle.format.proofs.Accepted.{lent-parts}
 use Rattle.format.proofs.StatusLaws.{stopped-is-both}
@@ -30,7 +32,7 @@ use Rattle.encoding.proofs.Finished.{length-packed}
 use Rattle.writing.proofs.Standing.{Stand}
 use Rattle.writing.proofs.Packed.{stream-bits, packed-stands}
 use Rattle.writing.proofs.StreamBack.{Fits, length-stream, size-width, size-height}
-use Rattle.writing.proofs.Decoded.{coefs-back, accepted, none-stopped}
+use Rattle.writing.proofs.Decoded.{coefs-back, accepted, none-stopped, all-used}
 use Rattle.writing.proofs.Again.{Whole, planes-taken}
 use Rattle.writing.proofs.Checked.{Sides, sides, short, groups, steps-fit, edges-whole, small}
 
@@ -39,7 +41,7 @@ module _ (w H : ℕ) (p : Colour → List ℤ) (work : List ℤ) (stream : List 
   abbrev v : Coefs
   v = recover w H p
 
-  call-good : callRefusal w H (length (p green)) (length (p red)) (length (p blue)) (length work) ≡ 0
+  pub call-good : callRefusal w H (length (p green)) (length (p red)) (length (p blue)) (length work) ≡ 0
   unfolding writeRefusal
   call-good = both-none (callRefusal w H (length (p green)) (length (p red)) (length (p blue)) (length work)) _ h .0
 
@@ -47,15 +49,15 @@ module _ (w H : ℕ) (p : Colour → List ℤ) (work : List ℤ) (stream : List 
   unfolding writeRefusal
   planes-good = both-none (callRefusal w H (length (p green)) (length (p red)) (length (p blue)) (length work)) _ h .1
 
-  numbers-good : numbersRefusal (guarded H) (stripes H) w p ≡ 0
+  pub numbers-good : numbersRefusal (guarded H) (stripes H) w p ≡ 0
   unfolding planesRefusal
   numbers-good = both-none (numbersRefusal (guarded H) (stripes H) w p) _ planes-good .0
 
-  lengths-good : lengthsRefusal w H v ≡ 0
+  pub lengths-good : lengthsRefusal w H v ≡ 0
   unfolding planesRefusal
   lengths-good = both-none (lengthsRefusal w H v) _ (both-none (numbersRefusal (guarded H) (stripes H) w p) _ planes-good .1) .0
 
-  sizes : Sides w H (length (p green)) (length (p red)) (length (p blue)) (length work) call-good
+  pub sizes : Sides w H (length (p green)) (length (p red)) (length (p blue)) (length work) call-good
   sizes = sides w H (length (p green)) (length (p red)) (length (p blue)) (length work) call-good
 
   fits : Fits w H v
@@ -80,11 +82,16 @@ module _ (w H : ℕ) (p : Colour → List ℤ) (work : List ℤ) (stream : List 
   unfolding streamOf
   stands = rw begins (packed-stands (streamBits w H v) (drop (streamLength w H v) stream) (stream-bits w H v) (omega (arith, length-stream w H v fits)))
 
-  long : streamLength w H v ≤ length left
+  pub length-of : length (streamOf w H v) ≡ streamLength w H v
   unfolding streamOf
-  long =
-      rw begins
-      (omega (arith, length-append (packed (streamBits w H v)) (drop (streamLength w H v) stream), length-packed (streamBits w H v), length-stream w H v fits))
+  length-of = omega (arith, length-packed (streamBits w H v), length-stream w H v fits)
+
+  long : streamLength w H v ≤ length left
+  long = rw begins (omega (arith, length-append (streamOf w H v) (drop (streamLength w H v) stream), length-of))
+
+  -- it begins with the stream of the coefficients
+  pub written-begins : take (streamLength w H v) left ≡ streamOf w H v
+  written-begins = rw begins (take-at (streamOf w H v) (drop (streamLength w H v) stream) (streamLength w H v) length-of)
 
   -- accepted, where slices long enough are lent
   pub written-accepted : (greenN redN blueN workN : ℕ) → shortRefusal w H greenN redN blueN workN ≡ 0 → refusal left greenN redN blueN workN ≡ 0
@@ -105,6 +112,10 @@ module _ (w H : ℕ) (p : Colour → List ℤ) (work : List ℤ) (stream : List 
 
   pub written-unspent : spentOf left ≡ 0
   written-unspent = omega (arith, written-sound, stopped-is-both left)
+
+  -- and the bits used are those that were written
+  pub written-used : bitsOf left ≡ tileSum (recordsBits w H v)
+  written-used = all-used w H v fits left stands long below
 
   -- its coefficients on the rows that go in
   same : SameCoefs w H coded (coefs left) v

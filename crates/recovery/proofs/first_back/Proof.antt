@@ -4,12 +4,11 @@ use mathlib.Core.Bool.{false}
 use native.Mathlib.Omega.{arith}
 use borrow.Author.Needs.{needs}
 use Prim.Native.Nat.{ℕ, _+_, _*_, _/_, _≤_}
-use Rattle.format.specs.Sizes.{l1, l2, detail, columns}
-use Rattle.format.specs.Table.{height, lead, highs}
-use Rattle.levels.specs.Block.{groupAt}
+use Rattle.format.specs.Sizes.{l1, l2, detail}
+use Rattle.format.specs.Table.{height}
 use Rattle.undoing.specs.Down.{leadOf}
-use Rattle.returning.specs.Return.{packetSize, Held, Beside}
-use Rattle.recovery.specs.Recovered.{Ready, llPlace, scratchAt}
+use Rattle.returning.specs.Return.{Held, Beside}
+use Rattle.recovery.specs.Recovered.{scratchAt, llPlace, LevelReady}
 use Rattle.recovery.proofs.LevelLaws.{ready-as, clean, level-back}
 use Rattle.recovery.proofs.IndexLaws.{packet-takes}
 use Rattle.recovery.proofs.Rooms.{lead-1, held, packet-front, shaped, low-1, lower-rows, lower-shape, lower-clear, some-rows, shape-1, span-1, first-in, level-1-few, ll-2-small, narrow}
@@ -59,7 +58,7 @@ undo-into-requires c κs =
 
 -- the level is undone, in document 01's words
 made : (c : tie.After-undo-into) → let u = c .before .before .before .before .before .before in let a = u .before .args in
-    Ready (lead (a .z .guarded) l1) (height (a .z .guarded) (a .z .n) l1) (highs (a .z .guarded) l1 (height (a .z .guarded) (a .z .n) l1)) (columns (a .z .w) (detail l1)) (llPlace (a .z) l2) (2 * a .z .w) (llPlace (a .z) l2 + 2 * (a .z .w / 16)) (2 * a .z .w) (groupAt (a .z) (a .at) (detail l1)) (groupAt (a .z) (a .at) (detail l1) + packetSize (a .z) (detail l1)) (a .work .now) (c .undo-into .last .0) (c .undo-into .result)
+    LevelReady (a .z) (a .at) l1 (llPlace (a .z) l2) (2 * a .z .w) (llPlace (a .z) l2 + 2 * (a .z .w / 16)) (2 * a .z .w) (a .work .now) (c .undo-into .last .0) (c .undo-into .result)
 made c =
     let f = c .before .before .before in
     let b = f .before in

@@ -4,12 +4,10 @@ use mathlib.Core.Bool.{false}
 use native.Mathlib.Omega.{arith}
 use borrow.Author.Needs.{needs}
 use Prim.Native.Nat.{ℕ, _+_, _*_, _/_, _≤_}
-use Rattle.format.specs.Sizes.{l2, detail, columns}
-use Rattle.format.specs.Table.{height, lead, highs}
-use Rattle.levels.specs.Block.{groupAt}
+use Rattle.format.specs.Sizes.{l2, detail}
 use Rattle.undoing.specs.Down.{leadOf}
-use Rattle.returning.specs.Return.{packetSize, Held, Beside}
-use Rattle.recovery.specs.Recovered.{Ready, scratchAt}
+use Rattle.returning.specs.Return.{Held, Beside}
+use Rattle.recovery.specs.Recovered.{scratchAt, LevelReady}
 use Rattle.recovery.proofs.LevelLaws.{ready-as, clean, level-back}
 use Rattle.recovery.proofs.IndexLaws.{packet-takes}
 use Rattle.recovery.proofs.Rooms.{lead-2, even-2, held, packet-front, shaped, low-2, lower-rows, lower-shape, lower-clear, some-2, shape-2, span-2, second-in}
@@ -39,7 +37,7 @@ undo-into-requires c κs =
 
 -- the level is undone, in document 01's words
 made : (c : tie.After-undo-into) → let u = c .before .before .before .before in let a = u .before .args in
-    Ready (lead (a .z .guarded) l2) (height (a .z .guarded) (a .z .n) l2) (highs (a .z .guarded) l2 (height (a .z .guarded) (a .z .n) l2)) (columns (a .z .w) (detail l2)) (scratchAt (a .z)) (a .z .w) (scratchAt (a .z) + 2 * (a .z .w / 8)) (a .z .w) (groupAt (a .z) (a .at) (detail l2)) (groupAt (a .z) (a .at) (detail l2) + packetSize (a .z) (detail l2)) (a .work .now) (c .undo-into .last .0) (c .undo-into .result)
+    LevelReady (a .z) (a .at) l2 (scratchAt (a .z)) (a .z .w) (scratchAt (a .z) + 2 * (a .z .w / 8)) (a .z .w) (a .work .now) (c .undo-into .last .0) (c .undo-into .result)
 made c =
     let b = c .before .before in
     let u = b .before .before in

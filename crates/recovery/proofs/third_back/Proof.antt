@@ -4,11 +4,9 @@ use native.Mathlib.Omega.{arith}
 use borrow.Author.Needs.{needs}
 use Prim.Native.Nat.{ℕ, _+_, _*_, _/_}
 use Rattle.format.specs.Lifting.{lowLeads}
-use Rattle.format.specs.Sizes.{l3, detail, columns}
-use Rattle.format.specs.Table.{height, lead, highs}
-use Rattle.levels.specs.Block.{groupAt}
-use Rattle.returning.specs.Return.{packetSize, Held, Beside}
-use Rattle.recovery.specs.Recovered.{Ready, scratchAt}
+use Rattle.format.specs.Sizes.{l3, detail}
+use Rattle.returning.specs.Return.{Held, Beside}
+use Rattle.recovery.specs.Recovered.{scratchAt, LevelReady}
 use Rattle.recovery.proofs.LevelLaws.{ready-as, clean, level-back}
 use Rattle.recovery.proofs.IndexLaws.{packet-takes}
 use Rattle.recovery.proofs.Rooms.{lead-low, even-3, held, packet-front, shaped, low-3, step-3, third-in, third-rows, third-shape, third-clear}
@@ -28,7 +26,7 @@ undo-into-requires c κs =
 
 -- the level is undone, in document 01's words
 made : (c : tie.After-undo-into) → let b = c .before .before .before in let u = b .before .before in let a = u .before .args in
-    Ready (lead (a .z .guarded) l3) (height (a .z .guarded) (a .z .n) l3) (highs (a .z .guarded) l3 (height (a .z .guarded) (a .z .n) l3)) (columns (a .z .w) (detail l3)) (a .from) (a .z .w / 2) (scratchAt (a .z)) (a .z .w / 2) (groupAt (a .z) (a .at) (detail l3)) (groupAt (a .z) (a .at) (detail l3) + packetSize (a .z) (detail l3)) (a .work .now) (c .undo-into .last .0) (c .undo-into .result)
+    LevelReady (a .z) (a .at) l3 (a .from) (a .z .w / 2) (scratchAt (a .z)) (a .z .w / 2) (a .work .now) (c .undo-into .last .0) (c .undo-into .result)
 made c =
     let b = c .before .before .before in
     let u = b .before .before in

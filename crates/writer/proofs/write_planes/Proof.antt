@@ -62,14 +62,15 @@ returns c =
     let m = t .before .before in
     let s = m .before .before .before .before .before in
     let a = s .args in
-    let e = numbers-refused (a .w) (a .h) (length (a .stream .now)) (lent m) (m .recover .result) (numbers m) (t .if1 .taken) in (
-      c .refused .ensures ∙ refused-answer _ _ _ (t .if1 .taken) e,
-      (d .clear .ensures ∙ ap zeros (long m), refused-stream _ _ (a .w) (a .h) _ (a .stream .now) (t .if1 .taken) e),
+    let some : m .recover .result ≡ 0 → ⊥ = λ z. omega (arith, z, t .if1 .taken) in
+    let e = numbers-refused (a .w) (a .h) (length (a .stream .now)) (lent m) (m .recover .result) (numbers m) some in (
+      c .refused .ensures ∙ refused-answer _ _ _ some e,
+      (d .clear .ensures ∙ ap zeros (long m), refused-stream _ _ (a .w) (a .h) _ (a .stream .now) some e),
     )
 
 -- no number is refused
 fine : (c : tie.Else1) → let m = c .before .before in let a = m .before .before .before .before .before .args in numbersRefusal (guarded (a .h)) (stripes (a .h)) (a .w) (lent m) ≡ 0
-fine c = let m = c .before .before in sym (numbers m) ∙ c .if1 .left
+fine c = let m = c .before .before in omega (arith, numbers m, c .if1 .left)
 
 write-coefficients-requires : tie.Need-write-coefficients-requires
 write-coefficients-requires c κs =

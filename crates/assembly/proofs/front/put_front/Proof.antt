@@ -1,9 +1,15 @@
 -- `put_front` meets its contract. Assumes nothing.
 use borrow.Author.Needs.{needs}
+use mathlib.Core.Path.{_≡_}
+use Prim.Native.Nat.{ℕ, _-_}
 use native.Mathlib.Omega.{arith}
 use Rattle.assembly.proofs.Fronts.{sizes-room, zeros-room, blocks-room, front-packed}
 use Rattle.assembly.proofs.front.put_front.Statement.{statement}
 use Rattle.assembly.proofs.front.put_front.Tie as tie
+
+-- the bytes of zeros
+seventeen : (n : ℕ) → n ≡ 128 → n - 111 ≡ 17
+seventeen n e = omega (arith, e)
 
 put-sizes-requires : tie.Need-put-sizes-requires
 put-sizes-requires c κs =
@@ -18,7 +24,7 @@ put-zeros-requires c κs =
     let a = b .before .before .before .before in
     let s = a .before .before .before .before in
     let x = s .args in
-    zeros-room (x .w) (x .h) (x .units .now) (x .out .now) (s .pre .4) (a .put-named .ensures) (b .put-sizes .ensures)
+    rw (seventeen _ (s .pre .4)) (zeros-room (x .w) (x .h) (x .units .now) (x .out .now) (s .pre .4) (a .put-named .ensures) (b .put-sizes .ensures))
 
 put-blocks-requires : tie.Need-put-blocks-requires
 put-blocks-requires c κs =
@@ -27,7 +33,7 @@ put-blocks-requires c κs =
     let a = b .before .before .before .before in
     let s = a .before .before .before .before in
     let x = s .args in
-    (s .pre .0, s .pre .1, blocks-room (x .w) (x .h) (x .units .now) (x .out .now) (s .pre .4) (a .put-named .ensures) (b .put-sizes .ensures) (d .put-zeros .ensures))
+    (s .pre .0, s .pre .1, blocks-room (x .w) (x .h) (x .units .now) (x .out .now) (s .pre .4) (a .put-named .ensures) (b .put-sizes .ensures) (rw (seventeen _ (s .pre .4)) at (d .put-zeros .ensures)))
 
 returns : tie.Need-returns
 returns c =
@@ -37,12 +43,13 @@ returns c =
     let a = b .before .before .before .before in
     let s = a .before .before .before .before in
     let x = s .args in
-    front-packed (x .w) (x .h) (x .units .now) (x .out .now) (s .pre .4) (a .put-named .ensures) (b .put-sizes .ensures) (d .put-zeros .ensures) (e .put-blocks .ensures) (λ i. omega (arith, c .slice-known5 .given i))
+    front-packed (x .w) (x .h) (x .units .now) (x .out .now) (s .pre .4) (a .put-named .ensures) (b .put-sizes .ensures) (rw (seventeen _ (s .pre .4)) at (d .put-zeros .ensures)) (e .put-blocks .ensures) (λ i. omega (arith, c .slice-known5 .given i))
 
 pub put-front-spec : {M : Type 1} → statement M
 put-front-spec =
     tie.close
     (tie.spec
+    (λ c. search needs)
     (λ c κs. search needs)
     put-sizes-requires
     put-zeros-requires
