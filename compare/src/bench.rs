@@ -151,22 +151,23 @@ impl Packets<'_> {
     }
 
     /// One packet's coefficients by ours.
-    fn ours(&self, decoder: &impl PacketDecoder, group: usize, index: usize, band: &mut [i32]) {
+    fn ours(&self, decoder: &impl PacketDecoder, group: usize, index: usize, band: &mut [i32]) -> Counts {
         let (size, (start, length)) = (self.stream.size, self.stream.packets[group][index]);
         let (shape, records) = (size.shape(group), size.n() + 1);
         let packet = &self.stream.bytes[start..start + length];
         let counts = decoder.packet(packet, shape, records, &mut band[..records * shape.numbers()]);
-        assert_eq!(counts, Some(Counts::default()));
+        counts.filter(|counts| counts.stopped == 0).expect("the packet is whole")
     }
 
-    /// Whether both give the same coefficients of every packet.
+    /// Whether both give the same coefficients and counts of every packet.
     fn agree(&self, decoder: &impl PacketDecoder, band: &mut [i32]) -> bool {
         self.all().all(|(group, index)| {
             let (start, length) = self.stream.packets[group][index];
             let (shape, records) = (self.stream.size.shape(group), self.stream.size.n() + 1);
             let packet = &self.stream.bytes[start..start + length];
-            self.ours(decoder, group, index, band);
-            packet_coefficients(packet, shape, records).is_ok_and(|(c, _)| c == band[..c.len()])
+            let found = self.ours(decoder, group, index, band);
+            packet_coefficients(packet, shape, records)
+                .is_ok_and(|(c, counts)| c == band[..c.len()] && counts == found)
         })
     }
 }
@@ -181,7 +182,11 @@ fn measure_packets(decoder: &impl PacketDecoder, stream: &Stream, groups: &[usiz
     let mut band = vec![1; packets.longest()];
     assert!(packets.agree(decoder, &mut band));
     let mut drop_each = || packets.all().for_each(|(g, k)| drop(packets.original(g, k)));
-    let mut our_each = || packets.all().for_each(|(g, k)| packets.ours(decoder, g, k, &mut band));
+    let mut our_each = || {
+        for (group, index) in packets.all() {
+            packets.ours(decoder, group, index, &mut band);
+        }
+    };
     let mut keep_all = || drop(packets.all().map(|(g, k)| packets.original(g, k)).collect::<Vec<_>>());
     let [dropped, ours] = by_turns([&mut drop_each, &mut our_each]);
     let [kept] = by_turns([&mut keep_all]);

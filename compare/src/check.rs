@@ -1,9 +1,11 @@
 //! Holds a decoder's answer for one case against the original's, and makes a failing case smaller.
 
 use crate::faults::Trial;
-use crate::oracle::{self, Counts};
+use crate::inspected;
+use crate::oracle::{self, Counts, Course, Planes, TilePacket};
 use crate::ours::{Decoded, Decoder, Lengths, Slices};
 use crate::strips::Strip;
+use crate::used::{End, Read};
 
 /// One case of the comparison.
 #[derive(Debug, Clone, PartialEq, Eq)]
@@ -15,13 +17,74 @@ pub enum Case {
 /// What the original answers to a case.
 #[derive(Debug, Clone, Copy, PartialEq, Eq)]
 pub enum Seen {
-    Accepted { guarded: bool, counts: Counts, turned: usize },
+    Accepted { guarded: bool, counts: Counts, records: Records },
     Tiles(usize),
     Refused(u64),
 }
 
+/// Records of an accepted stream that meet some end.
+#[derive(Debug, Clone, Copy, Default, PartialEq, Eq)]
+pub struct Records {
+    /// Broken ones whose status turned from 1 into 2.
+    pub turned: usize,
+    /// Broken ones with rows and bits left.
+    pub left_over: usize,
+    /// Whole ones that take all of their allowance.
+    pub exact: usize,
+    /// Spent ones by the read that runs out: at its start, and within it.
+    pub ends: [[usize; 2]; 9],
+}
+
+impl Records {
+    pub fn add(&mut self, other: &Records) {
+        self.turned += other.turned;
+        self.left_over += other.left_over;
+        self.exact += other.exact;
+        let ends = self.ends.iter_mut().flatten().zip(other.ends.iter().flatten());
+        ends.for_each(|(sum, more)| *sum += more);
+    }
+
+    /// 1 for each count that is not 0.
+    pub fn once(&self) -> Records {
+        let one = |count: usize| count.min(1);
+        Records {
+            turned: one(self.turned),
+            left_over: one(self.left_over),
+            exact: one(self.exact),
+            ends: self.ends.map(|ends| ends.map(one)),
+        }
+    }
+
+    /// Counts one record by its course and, if it is spent, by the read that runs out.
+    pub fn note(&mut self, course: &Course, end: Option<End>) {
+        self.turned += course.turned() as usize;
+        self.left_over += course.left_over() as usize;
+        self.exact += course.exact() as usize;
+        if let Some(End { read, within }) = end {
+            self.ends[read as usize][within as usize] += 1;
+        }
+    }
+
+    /// What is told, in words, and how many there are.
+    pub fn lines(&self) -> Vec<(String, usize)> {
+        let mut lines = vec![
+            ("broken, status turned from 1 into 2".to_string(), self.turned),
+            ("broken, rows and bits left".to_string(), self.left_over),
+            ("whole, all of the allowance taken".to_string(), self.exact),
+        ];
+        for read in Read::ALL {
+            let [start, within] = self.ends[read as usize];
+            lines.push((format!("spent before {}", read.name()), start));
+            if !read.is_single() {
+                lines.push((format!("spent within {}", read.name()), within));
+            }
+        }
+        lines
+    }
+}
+
 /// The number that stands at a place of a slice before the call.
-fn pattern(slice: usize, place: usize) -> i32 {
+pub fn pattern(slice: usize, place: usize) -> i32 {
     let mixed = (place as u32 ^ (slice as u32) << 29).wrapping_mul(0x9e37_79b1);
     (mixed ^ mixed >> 15) as i32 | 1
 }
@@ -46,6 +109,12 @@ fn check_stream(decoder: &impl Decoder, trial: &Trial) -> Result<Seen, String> {
     let mut slices = lend(trial.lent);
     let decoded = decoder.decode_stream(&trial.stream, &mut slices);
     equal("answer", &decoded, &Decoded::by(expected.as_ref()))?;
+    let packets = oracle::tile_packets(&trial.stream);
+    if !matches!(decoded.refusal, 3 | 4) {
+        let refusal = packets.as_ref().err().copied().unwrap_or(0);
+        equal("refusal by the checks in turn", &refusal, &decoded.refusal)?;
+    }
+    inspected::check_some(decoder, &trial.stream, &packets)?;
     let Ok(planes) = expected else {
         check_rests(&slices, [0; 4])?;
         return Ok(Seen::Refused(decoded.refusal));
@@ -57,7 +126,24 @@ fn check_stream(decoder: &impl Decoder, trial: &Trial) -> Result<Seen, String> {
     }
     check_numbers("work", &slices[3][..needed[3]], &vec![0; needed[3]])?;
     check_rests(&slices, needed)?;
-    Ok(Seen::Accepted { guarded: planes.size.guarded(), counts: planes.counts, turned: planes.turned })
+    let records = check_model(&planes, &packets.unwrap_or_default())?;
+    Ok(Seen::Accepted { guarded: planes.size.guarded(), counts: planes.counts, records })
+}
+
+/// The model's count of each record's bits and its statuses are the original's.
+fn check_model(planes: &Planes, packets: &[TilePacket]) -> Result<Records, String> {
+    let mut records = Records::default();
+    let mut courses = planes.courses.iter();
+    for (p, packet) in packets.iter().enumerate() {
+        for (i, course) in (0..packet.records()).zip(&mut courses) {
+            let model = packet.model(i);
+            if (&model.statuses, model.bits) != (&course.statuses, course.bits) {
+                return Err(format!("packet {p}, record {i}: the model {model:?}, the original {course:?}"));
+            }
+            records.note(course, model.end);
+        }
+    }
+    Ok(records)
 }
 
 /// Two answers are the same; else the text tells both.
@@ -68,7 +154,7 @@ pub fn equal<T: PartialEq + std::fmt::Debug>(what: &str, found: &T, expected: &T
     }
 }
 
-fn check_numbers(name: &str, found: &[i32], expected: &[i32]) -> Result<(), String> {
+pub fn check_numbers(name: &str, found: &[i32], expected: &[i32]) -> Result<(), String> {
     match found.iter().zip(expected).position(|(a, b)| a != b) {
         None => Ok(()),
         Some(i) => equal(&format!("{name}[{i}]"), &found[i], &expected[i]),

@@ -1,6 +1,6 @@
 //! The comparison of the proved tile decoder with the original in Rust: generators of streams, strips
-//! and planes, the original's answers in document 01's terms, a model of the writer, and the driver that
-//! holds the library's answers against them.
+//! and planes, the original's answers in document 01's terms, models of the writer and of the bits that a
+//! record takes, and the driver that holds the library's answers against them.
 
 // The original names its core crate; here that is this crate itself.
 extern crate self as flashraw_core;
@@ -22,6 +22,7 @@ pub mod check;
 pub mod damage;
 pub mod encoder;
 pub mod faults;
+pub mod inspected;
 pub mod largest;
 pub mod oracle;
 pub mod ordinary;
@@ -40,6 +41,7 @@ pub mod stages;
 pub mod streams;
 pub mod strips;
 pub mod sweep;
+pub mod used;
 pub mod vectors;
 pub mod watch;
 pub mod whole;

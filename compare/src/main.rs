@@ -3,7 +3,7 @@
 mod sample;
 
 use compare::ours::Ours;
-use compare::{bench, largest, ordinary, run, sweep, vectors, write};
+use compare::{bench, inspected, largest, ordinary, run, sweep, vectors, write};
 use std::process::ExitCode;
 
 const HELP: &str = "\
@@ -24,6 +24,11 @@ compare: the proved ARW6 tile decoder against the original in Rust
         N random calls of the writer (default 10000) and one table: bytes, refusals and slices are a
         model's, and the original decodes each stream to the planes again. A mismatch ends with
         status 1, and the first case, made smaller, is written to FILE (default mismatch.bin)
+  compare records [--seed S] [--count N] [--out FILE]
+        N random streams (default 10000), all records of small tiles and some of larger ones asked
+        for one by one, and one table: answers and bands are the original's, sums the tile's. A
+        mismatch ends with status 1, and the shortest stream that fails is written to FILE (default
+        mismatch.bin)
   compare largest
         a search for the largest numbers of such tiles, and tables of what was found; a tile on
         which decoders and whole numbers part ends with status 1
@@ -69,12 +74,21 @@ fn command(words: &[String]) -> Result<ExitCode, String> {
         "ordinary" => {
             let options = Options::parse(rest, &["--seed", "--count", "--out"])?;
             let (seed, count) = (options.number("--seed", 1)?, options.number("--count", 10_000)?);
-            tell_ordinary(ordinary::run(&Ours, seed, count as usize), &options)
+            let (tally, failing) = ordinary::run(&Ours, seed, count as usize);
+            tally.print();
+            tell_shortest(failing, &options)
         }
         "write" => {
             let options = Options::parse(rest, &["--seed", "--count", "--out"])?;
             let (seed, count) = (options.number("--seed", 1)?, options.number("--count", 10_000)?);
             tell_written(write::run(&Ours, seed, count as usize), &options)
+        }
+        "records" => {
+            let options = Options::parse(rest, &["--seed", "--count", "--out"])?;
+            let (seed, count) = (options.number("--seed", 1)?, options.number("--count", 10_000)?);
+            let (tally, failing) = inspected::run(&Ours, seed, count as usize);
+            tally.print();
+            tell_shortest(failing, &options)
         }
         "largest" => {
             Options::parse(rest, &[])?;
@@ -135,9 +149,8 @@ fn tell((tally, failing): run::Outcome, options: &Options) -> Result<ExitCode, S
     Ok(ExitCode::FAILURE)
 }
 
-/// Prints the table of ordinary tiles and writes the failing stream, if there is one.
-fn tell_ordinary((tally, failing): ordinary::Outcome, options: &Options) -> Result<ExitCode, String> {
-    tally.print();
+/// Writes the failing stream, if there is one.
+fn tell_shortest(failing: Option<(Vec<u8>, String)>, options: &Options) -> Result<ExitCode, String> {
     let Some((stream, what)) = failing else {
         return Ok(ExitCode::SUCCESS);
     };

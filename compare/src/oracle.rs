@@ -5,34 +5,54 @@ use crate::original::{
     CoeffBits, DirEntry, Packet, Plane,
 };
 use crate::size::{Shape, Size};
-use crate::streams::TILE_PACKETS;
+use crate::used;
 use crate::{Error, Result};
 
 /// The six fields of a tile, in document 01's order.
 pub type Tile = [usize; 6];
 
-/// The status of a record after each of its rows; no row where its byte length is 0.
+/// What decoding a record goes through.
 #[derive(Debug, Clone, Default, PartialEq, Eq)]
-pub struct Course(pub Vec<u8>);
+pub struct Course {
+    /// The status after each row; none where the byte length is 0.
+    pub statuses: Vec<u8>,
+    /// The byte length.
+    pub bytes: u64,
+    /// In bits: 128 for each 16 bytes begun.
+    pub allowance: u64,
+    /// Bits that were taken from the allowance.
+    pub bits: u64,
+}
 
 impl Course {
     /// The first status that was not 0, else 0.
     pub fn first(&self) -> u8 {
-        self.0.iter().copied().find(|&status| status != 0).unwrap_or(0)
+        self.statuses.iter().copied().find(|&status| status != 0).unwrap_or(0)
     }
 
     /// The status at the end.
     pub fn last(&self) -> u8 {
-        self.0.last().copied().unwrap_or(0)
+        self.statuses.last().copied().unwrap_or(0)
     }
 
     /// Whether the opening read of a later row turned 1 into 2.
     pub fn turned(&self) -> bool {
         (self.first(), self.last()) == (1, 2)
     }
+
+    /// Whether it is broken with rows after that one, and bits are left after all of them.
+    pub fn left_over(&self) -> bool {
+        let rows_after = self.statuses.iter().filter(|&&status| status == 1).count() > 1;
+        self.last() == 1 && rows_after && self.bits < self.allowance
+    }
+
+    /// Whether it never stops and takes all of its allowance, which is not 0.
+    pub fn exact(&self) -> bool {
+        self.last() == 0 && self.bits == self.allowance && self.allowance > 0
+    }
 }
 
-/// Records of a packet or of a tile that did not keep status 0.
+/// What the records of a packet or of a tile add up to: those that did not keep status 0, and bits.
 #[derive(Debug, Clone, Copy, Default, PartialEq, Eq)]
 pub struct Counts {
     /// Status at the end not 0.
@@ -41,15 +61,18 @@ pub struct Counts {
     pub broken: u64,
     /// First status 2: past the allowance.
     pub spent: u64,
+    /// Bits taken from the allowances.
+    pub bits: u64,
 }
 
 impl Counts {
-    fn of(courses: &[Course]) -> Counts {
+    pub fn of(courses: &[Course]) -> Counts {
         let count = |holds: fn(&Course) -> bool| courses.iter().filter(|c| holds(c)).count() as u64;
         Counts {
             stopped: count(|c| c.last() != 0),
             broken: count(|c| c.first() == 1),
             spent: count(|c| c.first() == 2),
+            bits: courses.iter().map(|c| c.bits).sum(),
         }
     }
 }
@@ -59,11 +82,18 @@ impl Counts {
 pub struct Planes {
     pub size: Size,
     pub counts: Counts,
-    /// Broken records whose status at the end is 2.
-    pub turned: usize,
+    /// The courses of all records, packet after packet in the order of document 01's checks.
+    pub courses: Vec<Course>,
     pub green: Vec<i32>,
     pub red: Vec<i32>,
     pub blue: Vec<i32>,
+}
+
+impl Planes {
+    /// Broken records whose status at the end is 2.
+    pub fn turned(&self) -> usize {
+        self.courses.iter().filter(|c| c.turned()).count()
+    }
 }
 
 /// The answer for a stream: its planes or the number of the refusal.
@@ -131,7 +161,7 @@ pub fn decode(stream: &[u8], lent: [usize; 4]) -> Answer {
         return Err(4);
     }
     let tile = decode_stream(stream, false).map_err(|e| number(&e))?;
-    let courses = courses(stream, size).map_err(|e| number(&e))?;
+    let courses = courses(stream).expect("the stream is accepted");
     let plane = |p: Plane, columns: usize| {
         assert_eq!((p.rows, p.cols), (size.rows(), columns), "rows R and columns of a plane");
         p.data
@@ -139,23 +169,86 @@ pub fn decode(stream: &[u8], lent: [usize; 4]) -> Answer {
     Ok(Planes {
         size,
         counts: Counts::of(&courses),
-        turned: courses.iter().filter(|c| c.turned()).count(),
+        courses,
         green: plane(tile.full_green, size.width),
         red: plane(tile.red, size.width / 2),
         blue: plane(tile.blue, size.width / 2),
     })
 }
 
-/// The courses of all records of the tile's 13 packets.
-pub fn courses(stream: &[u8], size: Size) -> Result<Vec<Course>> {
-    let packets = tile_packets(stream, &parse_directory(stream)?);
-    let mut courses = Vec::new();
-    for (group, packets) in packets.iter().enumerate() {
-        for packet in packets {
-            courses.extend(packet_courses(packet, size.shape(group))?);
-        }
+/// Groups and indices of the tile's packets, in the order of document 01's checks.
+pub const ORDER: [(usize, usize); 13] =
+    [(0, 0), (1, 0), (2, 0), (3, 0), (0, 1), (1, 1), (2, 1), (3, 1), (0, 2), (1, 2), (2, 2), (3, 2), (4, 0)];
+
+/// One of the tile's packets, its headers parsed by the original.
+pub struct TilePacket<'a> {
+    packet: Packet<'a>,
+    pub shape: Shape,
+}
+
+impl TilePacket<'_> {
+    /// How many records it has.
+    pub fn records(&self) -> usize {
+        self.packet.records.len()
     }
-    Ok(courses)
+
+    /// The byte length of a record that is there.
+    pub fn byte_length(&self, i: usize) -> u64 {
+        self.packet.records[i].byte_length as u64
+    }
+
+    /// The coefficients and the course of a record that is there.
+    pub fn record(&self, i: usize) -> (Vec<i32>, Course) {
+        let mut rows = vec![0; self.shape.numbers()];
+        let course = decode_record(&self.packet, i, self.shape, &mut rows);
+        (rows, course)
+    }
+
+    /// The same record as the model of documents 01 and 02 has it.
+    pub fn model(&self, i: usize) -> used::Outcome {
+        let record = &self.packet.records[i];
+        let payload = self.packet.data.get(record.payload_offset..).unwrap_or(&[]);
+        used::record(payload, record.byte_length, record.selectors.map(u32::from), self.shape)
+    }
+}
+
+/// The tile's packets in the order of the checks, or the number that the stream is refused with, but
+/// 3 and 4, which are not asked here. The original's parsers give 2, 5 to 8 and 10 to 18; the others
+/// follow document 01 and so need no planes, however large. `check` holds them against `decode_stream`.
+pub fn tile_packets(stream: &[u8]) -> std::result::Result<Vec<TilePacket<'_>>, u64> {
+    let size = header_size(stream).ok_or(2u64)?;
+    let directory = parse_directory(stream).map_err(|e| number(&e))?;
+    ORDER.iter().map(|&place| tile_packet(stream, &directory, size, place)).collect()
+}
+
+fn tile_packet<'a>(
+    stream: &'a [u8],
+    directory: &[DirEntry],
+    size: Size,
+    (group, index): (usize, usize),
+) -> std::result::Result<TilePacket<'a>, u64> {
+    let entry = directory.iter().find(|e| (e.group, e.index) == (group, index)).ok_or(9u64)?;
+    let packet = parse_packet(&stream[entry.start..entry.start + entry.length]).map_err(|e| number(&e))?;
+    let (shape, count, expected) = (size.shape(group), packet.records.len(), size.n() + 1);
+    let fewer = size.guarded() && count + 1 == expected;
+    let checks = [
+        (19, packet.kind > shape.kind),
+        (20, size.height() > 32_767),
+        (21, count != expected && !fewer),
+        (22, count > stream.len() / 16 + 1),
+        (23, packet.kind < shape.kind),
+        (24, group == 1 && size.height() < 16),
+    ];
+    match checks.into_iter().find(|check| check.1) {
+        Some((number, _)) => Err(number),
+        None => Ok(TilePacket { packet, shape }),
+    }
+}
+
+/// The courses of all records of the tile's 13 packets.
+pub fn courses(stream: &[u8]) -> std::result::Result<Vec<Course>, u64> {
+    let packets = tile_packets(stream)?;
+    Ok(packets.iter().flat_map(|p| decode_records(&p.packet, p.shape).1).collect())
 }
 
 /// The courses of the records of a packet.
@@ -163,54 +256,63 @@ pub fn packet_courses(packet: &[u8], shape: Shape) -> Result<Vec<Course>> {
     Ok(decode_records(&parse_packet(packet)?, shape).1)
 }
 
-/// The tile's packets by group and index.
-fn tile_packets<'a>(stream: &'a [u8], directory: &[DirEntry]) -> [Vec<&'a [u8]>; 5] {
-    std::array::from_fn(|group| {
-        let of_tile = directory.iter().filter(|e| e.group == group && e.index < TILE_PACKETS[group]);
-        of_tile.map(|e| &stream[e.start..e.start + e.length]).collect()
-    })
-}
-
 /// The coefficients of an accepted stream's 13 packets by group and index, record after record.
 pub fn tile_coefficients(stream: &[u8], size: Size) -> [Vec<Vec<i32>>; 5] {
-    let directory = parse_directory(stream).expect("the stream is accepted");
-    let packets = tile_packets(stream, &directory);
-    std::array::from_fn(|group| {
-        let numbers = |packet: &&[u8]| packet_coefficients(packet, size.shape(group), size.n() + 1);
-        packets[group].iter().map(|packet| numbers(packet).expect("the stream is accepted").0).collect()
-    })
+    let mut coefficients: [Vec<Vec<i32>>; 5] = Default::default();
+    let packets = tile_packets(stream).expect("the stream is accepted");
+    for (&(group, _), packet) in ORDER.iter().zip(&packets) {
+        let (mut numbers, _) = decode_records(&packet.packet, packet.shape);
+        numbers.resize((size.n() + 1) * packet.shape.numbers(), 0);
+        coefficients[group].push(numbers);
+    }
+    coefficients
 }
 
 /// The greatest selector in the records of an accepted stream's 13 packets.
 pub fn greatest_selector(stream: &[u8]) -> u32 {
-    let directory = parse_directory(stream).expect("the stream is accepted");
-    let greatest = |packet: &[u8]| {
-        let packet = parse_packet(packet).expect("the stream is accepted");
-        let selectors = packet.records.iter().flat_map(|r| &r.selectors[..packet.kind]);
+    let packets = tile_packets(stream).expect("the stream is accepted");
+    let greatest = |p: &TilePacket| {
+        let selectors = p.packet.records.iter().flat_map(|r| &r.selectors[..p.packet.kind]);
         selectors.max().map_or(0, |&s| s as u32)
     };
-    let packets = tile_packets(stream, &directory);
-    packets.iter().flatten().map(|packet| greatest(packet)).max().unwrap_or(0)
+    packets.iter().map(greatest).max().unwrap_or(0)
 }
 
 /// Decodes a packet record by record, as the original's `packet_planes` does: the coefficients
 /// record after record, and the course of each.
 fn decode_records(packet: &Packet, shape: Shape) -> (Vec<i32>, Vec<Course>) {
     let mut coefficients = vec![0; packet.records.len() * shape.numbers()];
-    let mut courses = vec![Course::default(); packet.records.len()];
     let bands = coefficients.chunks_mut(shape.numbers());
-    for ((record, rows), course) in packet.records.iter().zip(bands).zip(&mut courses) {
-        if record.byte_length == 0 {
-            continue;
-        }
-        let mut bits = CoeffBits::new(packet.data, record.payload_offset, record.byte_length);
-        for (i, row) in rows.chunks_mut(shape.columns).enumerate() {
-            let selector = record.selectors[i / shape.m] as u32;
-            decode_component(&mut bits, shape.groups(), selector, row);
-            course.0.push(bits.status);
-        }
-    }
+    let courses = bands.enumerate().map(|(i, rows)| decode_record(packet, i, shape, rows)).collect();
     (coefficients, courses)
+}
+
+/// Decodes one record into rows of zeros.
+fn decode_record(packet: &Packet, i: usize, shape: Shape, rows: &mut [i32]) -> Course {
+    let record = &packet.records[i];
+    let allowance = 128 * record.byte_length.div_ceil(16) as u64;
+    let mut course = Course { bytes: record.byte_length as u64, allowance, ..Course::default() };
+    if record.byte_length == 0 {
+        return course;
+    }
+    let mut bits = CoeffBits::new(packet.data, record.payload_offset, record.byte_length);
+    for (i, row) in rows.chunks_mut(shape.columns).enumerate() {
+        let selector = record.selectors[i / shape.m] as u32;
+        decode_component(&mut bits, shape.groups(), selector, row);
+        course.statuses.push(bits.status);
+    }
+    course.bits = allowance - left(&mut bits);
+    course
+}
+
+/// How many single bits a reader still gives before its status turns to 2.
+fn left(bits: &mut CoeffBits) -> u64 {
+    let mut left = 0;
+    while bits.status != 2 {
+        bits.read(1);
+        left += (bits.status != 2) as u64;
+    }
+    left
 }
 
 /// The coefficients of a packet of which `records` records are expected, 0 for those that are not
@@ -227,7 +329,7 @@ mod tests {
     use crate::original::packet_planes;
     use crate::packets::Record;
     use crate::rng::Rng;
-    use crate::streams::draw_stream;
+    use crate::streams::{draw_stream, TILE_PACKETS};
     use crate::written;
 
     /// Every error text of the original's source.
@@ -344,8 +446,10 @@ mod tests {
         let size = Size { width: 16, half: 8 };
         let (packet, shape) = (turned_packet(), size.shape(4));
         let courses = packet_courses(&packet, shape).unwrap();
-        assert_eq!(courses, [Course(vec![0, 1, 1, 1, 2, 2, 2, 2]), Course(vec![])]);
-        let counts = Counts { stopped: 1, broken: 1, spent: 0 };
+        let statuses = vec![0, 1, 1, 1, 2, 2, 2, 2];
+        let turned = Course { statuses, bytes: 16, allowance: 128, bits: 128 };
+        assert_eq!(courses, [turned, Course::default()]);
+        let counts = Counts { stopped: 1, broken: 1, spent: 0, bits: 128 };
         assert_eq!(packet_coefficients(&packet, shape, 2), Ok((vec![0; 128], counts)));
 
         let empty = |group: usize| vec![vec![Record::default(); 2]; TILE_PACKETS[group]];
@@ -355,7 +459,7 @@ mod tests {
         let (start, length) = stream.packets[4][0];
         assert_eq!(stream.bytes[start..start + length], packet);
         let planes = decode(&stream.bytes, size.needed()).unwrap();
-        assert_eq!((planes.counts, planes.turned), (counts, 1));
+        assert_eq!((planes.counts, planes.turned()), (counts, 1));
     }
 
     #[test]
@@ -365,9 +469,11 @@ mod tests {
         for _ in 0..300 {
             let stream = draw_stream(&mut rng);
             let Ok(planes) = decode(&stream.bytes, stream.size.needed()) else { continue };
-            let Counts { stopped, broken, spent } = planes.counts;
+            let Counts { stopped, broken, spent, bits } = planes.counts;
             assert_eq!(stopped, broken + spent);
-            assert!(planes.turned as u64 <= broken);
+            assert!(planes.turned() as u64 <= broken);
+            assert!(planes.courses.iter().all(|c| c.bits <= c.allowance));
+            assert!(bits <= planes.courses.iter().map(|c| c.allowance).sum());
             kinds = [kinds[0] + broken, kinds[1] + spent];
         }
         assert!(kinds.iter().all(|&records| records > 1000), "{kinds:?}");

@@ -15,9 +15,9 @@ pub use library::Library as Ours;
 #[cfg(feature = "mock")]
 pub use mock::Mock as Ours;
 
-use crate::oracle::{Counts, Planes};
+use crate::oracle::{Counts, Course, Planes};
 use crate::size::{Shape, Size};
-pub use ffi::{Decoded, Lengths, Written};
+pub use ffi::{Decoded, Inspected, Lengths, Written};
 
 /// The lent slices: green, red, blue and work.
 pub type Slices = [Vec<i32>; 4];
@@ -28,6 +28,8 @@ pub trait Decoder {
     fn tile_field(&self, strip: &[u8], frame: (usize, usize), ordinal: usize, field: usize) -> usize;
     fn lengths(&self, stream: &[u8]) -> Lengths;
     fn decode_stream(&self, stream: &[u8], slices: &mut Slices) -> Decoded;
+    /// One record of packet 0 to 12, its coefficients at the start of the band.
+    fn record(&self, stream: &[u8], packet: usize, record: usize, band: &mut [i32]) -> Inspected;
 }
 
 /// What the comparison asks of a writer besides.
@@ -62,9 +64,22 @@ impl Decoded {
             Err(refusal) => return Decoded { refusal: *refusal, ..Decoded::default() },
             Ok(planes) => planes,
         };
-        let (size, Counts { stopped, broken, spent }) = (planes.size, planes.counts);
+        let (size, Counts { stopped, broken, spent, bits }) = (planes.size, planes.counts);
         let (width, height, rows) = (size.width as u64, size.height() as u64, size.rows() as u64);
-        Decoded { refusal: 0, width, height, rows, stopped, broken, spent }
+        Decoded { refusal: 0, width, height, rows, stopped, broken, spent, bits }
+    }
+}
+
+impl Inspected {
+    /// The answer for a record that goes through this.
+    pub fn by(course: &Course) -> Inspected {
+        let Course { bytes, allowance, bits, .. } = *course;
+        let first = |status: u8| (course.first() == status) as u64;
+        Inspected { refusal: 0, bytes, allowance, bits, broken: first(1), spent: first(2) }
+    }
+
+    pub fn refused(refusal: u64) -> Inspected {
+        Inspected { refusal, ..Inspected::default() }
     }
 }
 

@@ -6,6 +6,7 @@ use crate::encoder::{least_width, write_row, Group, Value, MAX_WIDTH};
 use crate::packets::{Record, UNIT};
 use crate::rng::Rng;
 use crate::size::Shape;
+use crate::used::{reads, Read};
 
 /// What the records of a stream are like.
 #[derive(Debug, Clone)]
@@ -32,7 +33,7 @@ impl Recipe {
             mean: rng.pick(&[0.0, 0.1, 0.3, 1.0, 4.0, 30.0, 1000.0, 100_000.0]),
             selectors: [0, rng.pick(&[0, 0, 2, 4, 8, 15])],
             odd: rng.pick(&[0, 2, 4, 12]),
-            styles: rng.pick(&[&Style::ODD, &Style::AT_END]),
+            styles: rng.pick(&[&Style::ODD as &[Style], &Style::AT_END, &Style::WITHIN]),
             fewer: rng.pick(&[1, 2, 6]),
             loose: rng.one_in(2),
             plain_layout: rng.one_in(2),
@@ -136,6 +137,56 @@ fn coded_past_end(rng: &mut Rng, shape: Shape, selectors: &[u32; 3], recipe: &Re
     payload
 }
 
+/// The means of rows that have all kinds of reads.
+const MEANS: [f64; 8] = [0.03, 0.1, 0.3, 1.0, 4.0, 30.0, 1000.0, 1e5];
+
+/// How often a record is drawn until it has a read where it is asked for, if it is not large.
+const TRIES: usize = 48;
+const LARGE: usize = 2000;
+
+/// The payload of a record of which a read is cut by the end of the allowance: one of a kind that is
+/// drawn, at its start or within it, as the case may be; or of a record that takes all of its allowance
+/// and no more. What has none after some draws is cut anywhere.
+fn coded_to_read(rng: &mut Rng, shape: Shape, selectors: &[u32; 3], recipe: &Recipe) -> Vec<u8> {
+    let wanted = Read::ALL.get(rng.below(Read::ALL.len() + 1));
+    let within = rng.one_in(2);
+    let mut payload = Vec::new();
+    for _ in 0..if shape.numbers() > LARGE { 1 } else { TRIES } {
+        payload = coded_unevenly(rng, shape, selectors, recipe);
+        let reads = reads(&payload, *selectors, shape);
+        let taken = reads.last().map_or(0, |last| last.at + last.bits);
+        let Some(&wanted) = wanted else {
+            if taken > 0 && taken.is_multiple_of(8 * UNIT) {
+                return payload;
+            }
+            continue;
+        };
+        let ends = reads.iter().filter(|r| r.read == wanted && r.bits > 0).filter_map(|r| {
+            let end = (r.at + (within && !wanted.is_single()) as usize).next_multiple_of(8 * UNIT);
+            let cut = if within { end < r.at + r.bits } else { end == r.at };
+            (cut && end > 0).then_some(end)
+        });
+        let ends: Vec<usize> = ends.collect();
+        if !ends.is_empty() {
+            payload.truncate(rng.pick(&ends) / 8);
+            return payload;
+        }
+    }
+    payload.truncate(UNIT * rng.within(1, payload.len().div_ceil(UNIT).max(1)));
+    payload
+}
+
+/// The payload of a record whose rows have means of their own.
+fn coded_unevenly(rng: &mut Rng, shape: Shape, selectors: &[u32; 3], recipe: &Recipe) -> Vec<u8> {
+    let mut bits = BitWriter::default();
+    for row in 0..shape.rows() {
+        let recipe = Recipe { mean: rng.pick(&MEANS), ..recipe.clone() };
+        let (groups, widths) = draw_row(rng, shape, &recipe);
+        write_row(&mut bits, &groups, &widths, selectors[row / shape.m]);
+    }
+    bits.finish()
+}
+
 /// Draws one record.
 pub fn draw_record(rng: &mut Rng, shape: Shape, recipe: &Recipe) -> Record {
     let style = if recipe.odd > 0 && rng.one_in(recipe.odd) { rng.pick(recipe.styles) } else { Style::Coded };
@@ -162,6 +213,9 @@ pub enum Style {
     Spent,
     /// A width above 19 whose unary, or a sign after it, runs past the allowance.
     Past,
+    /// Coded, the allowance ending at the start of a read or within it, each kind in turn, or with the
+    /// last read.
+    Within,
 }
 
 impl Style {
@@ -169,6 +223,20 @@ impl Style {
     pub const ODD: [Style; 5] = [Style::Empty, Style::Noise, Style::Wide, Style::Cut, Style::Same];
     /// Those at the end of their allowance, and the one that has none.
     pub const AT_END: [Style; 4] = [Style::Brink, Style::Spent, Style::Past, Style::Empty];
+    /// Those whose allowance ends within each kind of read, and broken ones with bits left.
+    pub const WITHIN: [Style; 4] = [Style::Within, Style::Within, Style::Within, Style::Wide];
+    pub const ALL: [Style; 10] = [
+        Style::Coded,
+        Style::Empty,
+        Style::Noise,
+        Style::Wide,
+        Style::Cut,
+        Style::Same,
+        Style::Brink,
+        Style::Spent,
+        Style::Past,
+        Style::Within,
+    ];
 }
 
 /// Draws one record of the style; a payload that no byte length can tell is cut.
@@ -192,6 +260,7 @@ pub fn draw_styled(rng: &mut Rng, shape: Shape, recipe: &Recipe, style: Style) -
         Style::Brink => coded_to_end(rng, shape, &selectors, recipe, false),
         Style::Spent => coded_past_end(rng, shape, &selectors, recipe),
         Style::Past => coded_to_end(rng, shape, &selectors, recipe, true),
+        Style::Within => coded_to_read(rng, shape, &selectors, recipe),
     };
     payload.truncate(65_535);
     Record { selectors, payload }

@@ -1,6 +1,6 @@
 //! The command `run`: random cases, one table, and the smallest failing case.
 
-use crate::check::{check, shrink, Case, Seen};
+use crate::check::{check, shrink, Case, Records, Seen};
 use crate::damage::{draw_damaged, draw_whole};
 use crate::oracle::TEXTS;
 use crate::ours::Decoder;
@@ -22,12 +22,12 @@ pub struct Tally {
     pub cases: usize,
     pub plain: usize,
     pub guarded: usize,
-    /// Accepted streams with stopped, broken and spent records, and with broken ones whose status
-    /// turned from 1 into 2.
+    /// Accepted streams with stopped, broken and spent records, and with each of the records that
+    /// meet some end.
     pub stopped: usize,
     pub broken: usize,
     pub spent: usize,
-    pub turned: usize,
+    pub records: Records,
     /// Strips in which tiles were located, and those tiles.
     pub strips: usize,
     pub tiles: usize,
@@ -38,13 +38,13 @@ pub struct Tally {
 impl Tally {
     fn count(&mut self, seen: Seen) {
         match seen {
-            Seen::Accepted { guarded, counts, turned } => {
+            Seen::Accepted { guarded, counts, records } => {
                 self.plain += !guarded as usize;
                 self.guarded += guarded as usize;
                 self.stopped += (counts.stopped > 0) as usize;
                 self.broken += (counts.broken > 0) as usize;
                 self.spent += (counts.spent > 0) as usize;
-                self.turned += (turned > 0) as usize;
+                self.records.add(&records.once());
             }
             Seen::Tiles(count) => {
                 self.strips += 1;
@@ -61,8 +61,8 @@ impl Tally {
         line("streams accepted, guarded", self.guarded);
         line("  of these with stopped records", self.stopped);
         line("    with broken records", self.broken);
-        line("      with a status turned from 1 into 2", self.turned);
         line("    with spent records", self.spent);
+        self.records.lines().iter().for_each(|(what, count)| line(&format!("    {what}"), *count));
         line("strips with tiles", self.strips);
         line("  tiles in them", self.tiles);
         for number in 1..=24 {
@@ -117,8 +117,8 @@ pub fn check_all(decoder: &impl Decoder, cases: impl Iterator<Item = Case>) -> O
 mod tests {
     use super::*;
     use crate::check::{Case, Seen};
-    use crate::oracle::{courses, header_size, Course};
-    use crate::ours::mock::{Mismeasured, Mistaken, Mock};
+    use crate::oracle::{courses, Course};
+    use crate::ours::mock::{Mismeasured, Misread, Mistake, Mistaken, Mock, Told};
     use crate::ours::{Decoded, Lengths, Slices};
 
     #[test]
@@ -126,8 +126,11 @@ mod tests {
         let (tally, failing) = run(&Mock, 1, 12_000);
         assert_eq!(failing, None);
         assert!(tally.plain > 100 && tally.guarded > 100 && tally.strips > 100);
-        let records = [tally.stopped, tally.broken, tally.spent, tally.turned];
+        let records = [tally.stopped, tally.broken, tally.spent, tally.records.turned];
         assert!(records.iter().all(|&cases| cases > 100), "{records:?}");
+        for (what, cases) in tally.records.lines() {
+            assert!(cases >= 10, "{what}: {cases}");
+        }
         for number in 1..=24 {
             assert!(tally.refused[number] >= 10, "number {number}: {}", tally.refused[number]);
         }
@@ -171,7 +174,7 @@ mod tests {
         if decoded.refusal > 0 {
             return;
         }
-        let courses = courses(stream, header_size(stream).unwrap()).unwrap();
+        let courses = courses(stream).unwrap();
         let count = |number| courses.iter().filter(|c| status(c) == number).count() as u64;
         (decoded.broken, decoded.spent) = (count(1), count(2));
     }
@@ -183,9 +186,15 @@ mod tests {
         let mistakes: [fn(&[u8], &mut Slices, &mut Decoded); 4] = [
             |stream, _, decoded| recount(stream, decoded, Course::last),
             |stream, _, decoded| recount(stream, decoded, |c| c.first().min(1)),
-            |stream, _, decoded| recount(stream, decoded, |c| c.0.first().copied().unwrap_or(0)),
+            |stream, _, decoded| recount(stream, decoded, |c| c.statuses.first().copied().unwrap_or(0)),
             |stream, _, decoded| {
-                recount(stream, decoded, |c| if c.0.first() == Some(&1) { 1 } else { c.first().min(1) * 2 })
+                recount(stream, decoded, |c| {
+                    if c.statuses.first() == Some(&1) {
+                        1
+                    } else {
+                        c.first().min(1) * 2
+                    }
+                })
             },
         ];
         for (i, mistake) in mistakes.into_iter().enumerate() {
@@ -196,6 +205,49 @@ mod tests {
         }
         let (tally, failing) = run(&Mistaken(|s, _, d| recount(s, d, Course::first)), 5, 2000);
         assert_eq!((tally.mismatches, failing), (0, None));
+    }
+
+    /// The bits that rows take: zeros past the end too; none for the opening reads of rows after one
+    /// that stops; the allowance for all; one where the stream is refused.
+    #[test]
+    fn mistaken_bits_are_found() {
+        let mistakes: [fn(&[u8], &mut Slices, &mut Decoded); 4] = [
+            |_, _, decoded| decoded.bits += decoded.spent,
+            |stream, _, decoded| {
+                let rows = |c: &Course| c.statuses.iter().filter(|&&status| status == 1).count() as u64;
+                let after: u64 =
+                    courses(stream).map_or(0, |all| all.iter().map(|c| rows(c).max(1) - 1).sum());
+                decoded.bits = decoded.bits.saturating_sub(after);
+            },
+            |stream, _, decoded| {
+                let allowances = || courses(stream).unwrap().iter().map(|c| c.allowance).sum();
+                decoded.bits = if decoded.refusal == 0 { allowances() } else { 0 };
+            },
+            |_, _, decoded| decoded.bits = decoded.bits.max((decoded.refusal > 4) as u64),
+        ];
+        for (i, mistake) in mistakes.into_iter().enumerate() {
+            let (tally, failing) = run(&Mistaken(mistake), 5, 2000);
+            let (case, what) = failing.expect("the mistake shows");
+            assert!(tally.mismatches > 100, "mistake {i}: {}", tally.mismatches);
+            assert!(matches!(case, Case::Stream(_)) && what.starts_with("answer: "), "mistake {i}");
+        }
+    }
+
+    /// Every case asks for some records, those of refused streams too.
+    #[test]
+    fn mistaken_records_are_found() {
+        let mistakes: [fn(Told); 4] = [
+            |told| told.4.bits += told.4.spent,
+            |told| told.4.bits += (told.4.refusal == 0 && told.4.allowance == 0 && told.1 < 13) as u64,
+            |told| told.4.refusal %= 18,
+            |told| told.3.last_mut().into_iter().for_each(|number| *number ^= 1),
+        ];
+        for (i, mistake) in mistakes.into_iter().enumerate() {
+            let (tally, failing) = run(&Misread(mistake), 5, 2000);
+            let (case, what) = failing.expect("the mistake shows");
+            assert!(tally.mismatches > 50, "mistake {i}: {}", tally.mismatches);
+            assert!(matches!(case, Case::Stream(_)) && what.starts_with("Query"), "mistake {i}");
+        }
     }
 
     #[test]
@@ -217,26 +269,12 @@ mod tests {
     /// A locator that gives up when the table fails.
     struct NoFallback;
 
-    impl Decoder for NoFallback {
-        fn tile_count(&self, strip: &[u8], frame: (usize, usize)) -> usize {
+    impl Mistake for NoFallback {
+        fn tiles(&self, strip: &[u8], count: &mut usize) {
             let by_table = strip.first().is_some_and(|&b| b > 0);
-            if by_table {
-                Mock.tile_count(strip, frame)
-            } else {
-                0
+            if !by_table {
+                *count = 0;
             }
-        }
-
-        fn tile_field(&self, strip: &[u8], frame: (usize, usize), ordinal: usize, field: usize) -> usize {
-            Mock.tile_field(strip, frame, ordinal, field)
-        }
-
-        fn lengths(&self, stream: &[u8]) -> Lengths {
-            Mock.lengths(stream)
-        }
-
-        fn decode_stream(&self, stream: &[u8], slices: &mut Slices) -> Decoded {
-            Mock.decode_stream(stream, slices)
         }
     }
 

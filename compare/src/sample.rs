@@ -101,7 +101,7 @@ mod tests {
             hold(&meant.green, &found.green);
             hold(&meant.red, &found.red);
             hold(&meant.blue, &found.blue);
-            assert_eq!(found.counts, Default::default());
+            assert_eq!(found.counts.stopped, 0);
         }
     }
 }

@@ -1,15 +1,16 @@
 //! The command `sweep`: small streams and strips with every value of every byte in their heads,
-//! cut at every length, and every 16 bits at the start and at the end of a record's payload.
+//! cut at every length, and every 16 bits at the start and at the end of a record's payload, rows with
+//! longer zero runs among them.
 
 use crate::bits::BitWriter;
 use crate::check::Case;
-use crate::encoder::{write_row, Group};
+use crate::encoder::{least_width, write_row, Group};
 use crate::faults::Trial;
 use crate::oracle::header_size;
 use crate::packets::{packet, Record, Room, UNIT};
-use crate::records::Recipe;
+use crate::records::{draw_value, Recipe};
 use crate::rng::Rng;
-use crate::size::Size;
+use crate::size::{Shape, Size};
 use crate::streams::{assemble, draw_parts, Parts};
 use crate::strips::{draw_table_strip, edge_strips, Strip};
 
@@ -21,7 +22,10 @@ pub fn cases() -> impl Iterator<Item = Case> {
     let streams = [(16, 16), (16, 26)].map(|(width, height)| small_parts(width, height));
     let heads = streams.clone().into_iter().flat_map(|parts| stream_heads(assemble(&parts).bytes));
     let ends = streams.clone().into_iter().flat_map(|parts| stream_ends(assemble(&parts).bytes));
-    let payloads = streams.into_iter().flat_map(payloads);
+    let narrow = streams.into_iter().flat_map(|parts| payloads(parts, narrow_rests()));
+    let wide = small_parts(48, 16);
+    let rests = [(whole_rows(wide.size.shape(4)), 14, 0)];
+    let payloads = narrow.chain(payloads(wide, rests));
     heads.chain(ends).chain(payloads).chain(small_strips().into_iter().flat_map(strip_cases))
 }
 
@@ -56,10 +60,17 @@ fn stream_ends(stream: Vec<u8>) -> impl Iterator<Item = Case> {
     (0..=stream.len()).map(move |length| stream_case(stream[..length].to_vec()))
 }
 
-/// Every opening of the first record of group 4, over zeros and over other bits, and every ending,
-/// before signs and without, each with a selector and without.
-fn payloads(parts: Parts) -> impl Iterator<Item = Case> {
-    let rests = [([0x00; UNIT], 0, 0), ([0xb6; UNIT], 0, 1), (unended(0), 14, 0), (unended(1), 14, 1)];
+/// A payload of one unit, the place of two bytes in it that take every value, and a selector.
+type Rest = ([u8; UNIT], usize, u32);
+
+/// Every opening of a record, over zeros and over other bits, and every ending, before signs and
+/// without, each with a selector and without.
+fn narrow_rests() -> [Rest; 4] {
+    [([0x00; UNIT], 0, 0), ([0xb6; UNIT], 0, 1), (unended(0), 14, 0), (unended(1), 14, 1)]
+}
+
+/// The first record of group 4 with all these payloads.
+fn payloads<const N: usize>(parts: Parts, rests: [Rest; N]) -> impl Iterator<Item = Case> {
     let all = rests.into_iter().flat_map(|rest| (0..=u16::MAX).map(move |bits| (rest, bits)));
     all.map(move |((rest, at, selector), bits)| {
         let mut payload = rest.to_vec();
@@ -84,6 +95,27 @@ fn unended(value: u32) -> [u8; UNIT] {
     let mut payload = bits.finish();
     payload.resize(UNIT, 0);
     payload.try_into().expect("one unit")
+}
+
+/// A payload of 112 bits that ends with a row and has three rows left or more, so that zero runs of
+/// all lengths and the bits after them meet the end of the allowance.
+fn whole_rows(shape: Shape) -> [u8; UNIT] {
+    let drawn = |seed| {
+        let (mut rng, mut bits) = (Rng::new(seed), BitWriter::default());
+        for _ in 0..shape.rows() - 3 {
+            let groups: Vec<Group> =
+                (0..shape.groups()).map(|_| std::array::from_fn(|_| draw_value(&mut rng, 0.5))).collect();
+            let widths: Vec<u32> = groups.iter().map(least_width).collect();
+            write_row(&mut bits, &groups, &widths, 0);
+            if bits.written() == 112 {
+                let mut payload = bits.finish();
+                payload.resize(UNIT, 0);
+                return payload.try_into().ok();
+            }
+        }
+        None
+    };
+    (1..).find_map(drawn).expect("such rows")
 }
 
 /// Document 01's example, one with a table entry for the same place, and a table of three.

@@ -9,6 +9,7 @@ use crate::size::{Shape, Size};
 use crate::streams::{assemble, draw_parts, push_directory_into_packet, Stream};
 use crate::strips::{draw_fallback_strip, draw_strip, draw_table_strip, edge_strips, Strip};
 
+mod inspected;
 mod listings;
 mod ordinary;
 mod refusals;
@@ -26,13 +27,14 @@ struct Vectors {
 }
 
 /// The kinds and their writers; the number of the first is 1.
-const KINDS: [(&str, fn(&mut Vectors, &mut Rng)); 6] = [
+const KINDS: [(&str, fn(&mut Vectors, &mut Rng)); 7] = [
     ("strips", strips),
     ("refusals", refusals::refusals),
     ("records", records),
     ("tiles", tiles),
     ("listings", listings::listings),
     ("written", written::written),
+    ("inspected", inspected::inspected),
 ];
 
 impl Vectors {
@@ -64,8 +66,8 @@ impl Vectors {
 
     /// Starts the case of an accepted tile; its planes follow.
     fn tile_head(&mut self, stream: &[u8], planes: &Planes) {
-        let (size, [broken, spent]) = (planes.size, counted(planes.counts));
-        self.case(&[stream.len(), 0, size.width, size.height(), size.rows(), broken, spent]);
+        let (size, [broken, spent, bits]) = (planes.size, counted(planes.counts));
+        self.case(&[stream.len(), 0, size.width, size.height(), size.rows(), broken, spent, bits]);
         self.bytes(stream);
     }
 }
@@ -81,10 +83,10 @@ pub fn make(seed: u64) -> (Vec<u8>, String) {
     (bytes, text + &line("of no kind", 0))
 }
 
-/// The two counts of a case, which make up the third.
-fn counted(Counts { stopped, broken, spent }: Counts) -> [usize; 2] {
+/// The counts of a case; the first two make up the stopped records.
+fn counted(Counts { stopped, broken, spent, bits }: Counts) -> [usize; 3] {
     assert_eq!(stopped, broken + spent, "broken and spent records are the stopped ones");
-    [broken as usize, spent as usize]
+    [broken, spent, bits].map(|count| count as usize)
 }
 
 fn size(width: usize, height: usize) -> Size {
@@ -156,8 +158,8 @@ fn put_records(out: &mut Vectors, rng: &mut Rng, group: usize, style: Style, few
 fn put_packet(out: &mut Vectors, packet: &[u8], shape: Shape, records: usize) {
     let (coefficients, counts) =
         oracle::packet_coefficients(packet, shape, records).expect("the packet is well formed");
-    let [broken, spent] = counted(counts);
-    out.case(&[packet.len(), shape.kind, shape.m, shape.columns, records, broken, spent]);
+    let [broken, spent, bits] = counted(counts);
+    out.case(&[packet.len(), shape.kind, shape.m, shape.columns, records, broken, spent, bits]);
     out.bytes(packet);
     out.numbers(&coefficients);
 }
@@ -221,7 +223,7 @@ fn directory_in_packet(rng: &mut Rng) -> Stream {
 fn put_tile(out: &mut Vectors, stream: &[u8]) {
     let planes = match oracle::decode(stream, [usize::MAX; 4]) {
         Err(refusal) => {
-            out.case(&[stream.len(), refusal as usize, 0, 0, 0, 0, 0]);
+            out.case(&[stream.len(), refusal as usize, 0, 0, 0, 0, 0, 0]);
             return out.bytes(stream);
         }
         Ok(planes) => planes,

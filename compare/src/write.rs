@@ -114,9 +114,14 @@ fn decoded_again(writer: &impl Writer, case: &Case, stream: &[u8]) -> Result<(),
     let original =
         oracle::decode(stream, needed).map_err(|number| format!("the original refuses it: {number}"))?;
     equal("size", &original.size, &size)?;
-    equal("counts", &original.counts, &Counts::default())?;
+    let Counts { stopped, broken, spent, bits } = original.counts;
+    equal("stopped, broken and spent records", &[stopped, broken, spent], &[0; 3])?;
+    if let Some(course) = original.courses.iter().find(|c| c.bits.div_ceil(8) != c.bytes) {
+        return Err(format!("a record of {} bytes takes {} bits", course.bytes, course.bits));
+    }
     let mut slices = needed.map(|length| vec![1; length]);
-    equal("refusal of ours", &writer.decode_stream(stream, &mut slices).refusal, &0)?;
+    let decoded = writer.decode_stream(stream, &mut slices);
+    equal("refusal and bits of ours", &[decoded.refusal, decoded.bits], &[0, bits])?;
     let again = [&original.green, &original.red, &original.blue];
     for (i, name) in ["green", "red", "blue"].into_iter().enumerate() {
         let meant = &case.planes[i][..needed[i]];

@@ -1,6 +1,6 @@
 //! The static libraries `libarw6.a` and `libcoefficients.a`.
 
-use super::{ffi, Decoded, Decoder, Lengths, PacketDecoder, Slices, Writer, Written};
+use super::{ffi, Decoded, Decoder, Inspected, Lengths, PacketDecoder, Slices, Writer, Written};
 use crate::oracle::Counts;
 use crate::size::Shape;
 
@@ -11,6 +11,7 @@ struct Packet {
     together: u64,
     broken: u64,
     spent: u64,
+    bits: u64,
 }
 
 extern "C" {
@@ -44,6 +45,10 @@ impl Decoder for Library {
     fn decode_stream(&self, stream: &[u8], [green, red, blue, work]: &mut Slices) -> Decoded {
         ffi::decode_stream(stream, green, red, blue, work)
     }
+
+    fn record(&self, stream: &[u8], packet: usize, record: usize, band: &mut [i32]) -> Inspected {
+        ffi::record(stream, packet, record, band)
+    }
 }
 
 impl Writer for Library {
@@ -61,7 +66,7 @@ impl Writer for Library {
 impl PacketDecoder for Library {
     fn packet(&self, packet: &[u8], shape: Shape, records: usize, band: &mut [i32]) -> Option<Counts> {
         // SAFETY: each pointer and length are those of one slice, which share no byte.
-        let Packet { together, broken, spent } = unsafe {
+        let Packet { together, broken, spent, bits } = unsafe {
             arw6_packet(
                 packet.as_ptr(),
                 packet.len(),
@@ -72,6 +77,6 @@ impl PacketDecoder for Library {
                 band.len(),
             )
         };
-        (together == 1).then_some(Counts { stopped: broken + spent, broken, spent })
+        (together == 1).then_some(Counts { stopped: broken + spent, broken, spent, bits })
     }
 }

@@ -1,8 +1,8 @@
-//! The original and the model of the writer behind the library's interface, so that the driver can be
-//! tested alone.
+//! The original, the model of the writer and, for single records, the model of rows behind the library's
+//! interface, so that the driver can be tested alone.
 
-use super::{Decoded, Decoder, Lengths, PacketDecoder, Slices, Writer, Written};
-use crate::oracle::{self, Counts};
+use super::{Decoded, Decoder, Inspected, Lengths, PacketDecoder, Slices, Writer, Written};
+use crate::oracle::{self, Counts, Course};
 use crate::size::Shape;
 use crate::writing::{self, Call};
 
@@ -29,6 +29,22 @@ impl Decoder for Mock {
             write(planes, slices);
         }
         Decoded::by(answer.as_ref())
+    }
+
+    fn record(&self, stream: &[u8], packet: usize, record: usize, band: &mut [i32]) -> Inspected {
+        let packets = match oracle::tile_packets(stream) {
+            Err(refusal) => return Inspected::refused(refusal),
+            Ok(packets) => packets,
+        };
+        let there = packets.get(packet).filter(|p| record < p.records());
+        let Some(packet) = there else { return Inspected::default() };
+        let (model, bytes) = (packet.model(record), packet.byte_length(record));
+        if band.len() < model.coefficients.len() {
+            return Inspected::refused(4);
+        }
+        band[..model.coefficients.len()].copy_from_slice(&model.coefficients);
+        let (statuses, bits, allowance) = (model.statuses, model.bits, 128 * bytes.div_ceil(16));
+        Inspected::by(&Course { statuses, bytes, allowance, bits })
     }
 }
 
@@ -66,39 +82,26 @@ fn write(planes: &oracle::Planes, [green, red, blue, work]: &mut Slices) {
     work[..planes.size.needed()[3]].fill(0);
 }
 
-/// A decoder with one mistake.
+/// One query of a single record: the stream, packet and record, the band after the answer, and the
+/// answer.
 #[cfg(test)]
-pub struct Mistaken(pub fn(&[u8], &mut Slices, &mut Decoded));
+pub type Told<'a> = (&'a [u8], usize, usize, &'a mut [i32], &'a mut Inspected);
 
+/// What a decoder with a mistake makes of the right answers.
 #[cfg(test)]
-impl Decoder for Mistaken {
-    fn tile_count(&self, strip: &[u8], frame: (usize, usize)) -> usize {
-        Mock.tile_count(strip, frame)
-    }
-
-    fn tile_field(&self, strip: &[u8], frame: (usize, usize), ordinal: usize, field: usize) -> usize {
-        Mock.tile_field(strip, frame, ordinal, field)
-    }
-
-    fn lengths(&self, stream: &[u8]) -> Lengths {
-        Mock.lengths(stream)
-    }
-
-    fn decode_stream(&self, stream: &[u8], slices: &mut Slices) -> Decoded {
-        let mut decoded = Mock.decode_stream(stream, slices);
-        (self.0)(stream, slices, &mut decoded);
-        decoded
-    }
+pub trait Mistake {
+    fn tiles(&self, _strip: &[u8], _count: &mut usize) {}
+    fn measured(&self, _lengths: &mut Lengths) {}
+    fn decoded(&self, _stream: &[u8], _slices: &mut Slices, _decoded: &mut Decoded) {}
+    fn told(&self, _told: Told) {}
 }
 
-/// A decoder with one mistake in its lengths.
 #[cfg(test)]
-pub struct Mismeasured(pub fn(&mut Lengths));
-
-#[cfg(test)]
-impl Decoder for Mismeasured {
+impl<M: Mistake> Decoder for M {
     fn tile_count(&self, strip: &[u8], frame: (usize, usize)) -> usize {
-        Mock.tile_count(strip, frame)
+        let mut count = Mock.tile_count(strip, frame);
+        self.tiles(strip, &mut count);
+        count
     }
 
     fn tile_field(&self, strip: &[u8], frame: (usize, usize), ordinal: usize, field: usize) -> usize {
@@ -107,11 +110,52 @@ impl Decoder for Mismeasured {
 
     fn lengths(&self, stream: &[u8]) -> Lengths {
         let mut lengths = Mock.lengths(stream);
-        (self.0)(&mut lengths);
+        self.measured(&mut lengths);
         lengths
     }
 
     fn decode_stream(&self, stream: &[u8], slices: &mut Slices) -> Decoded {
-        Mock.decode_stream(stream, slices)
+        let mut decoded = Mock.decode_stream(stream, slices);
+        self.decoded(stream, slices, &mut decoded);
+        decoded
+    }
+
+    fn record(&self, stream: &[u8], packet: usize, record: usize, band: &mut [i32]) -> Inspected {
+        let mut inspected = Mock.record(stream, packet, record, band);
+        self.told((stream, packet, record, band, &mut inspected));
+        inspected
+    }
+}
+
+/// A decoder with one mistake in what it decodes.
+#[cfg(test)]
+pub struct Mistaken(pub fn(&[u8], &mut Slices, &mut Decoded));
+
+#[cfg(test)]
+impl Mistake for Mistaken {
+    fn decoded(&self, stream: &[u8], slices: &mut Slices, decoded: &mut Decoded) {
+        (self.0)(stream, slices, decoded);
+    }
+}
+
+/// A decoder with one mistake in its lengths.
+#[cfg(test)]
+pub struct Mismeasured(pub fn(&mut Lengths));
+
+#[cfg(test)]
+impl Mistake for Mismeasured {
+    fn measured(&self, lengths: &mut Lengths) {
+        (self.0)(lengths);
+    }
+}
+
+/// A decoder with one mistake in single records.
+#[cfg(test)]
+pub struct Misread(pub fn(Told));
+
+#[cfg(test)]
+impl Mistake for Misread {
+    fn told(&self, told: Told) {
+        (self.0)(told);
     }
 }

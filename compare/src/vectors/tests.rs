@@ -1,8 +1,10 @@
 //! The vectors are read back and held against the original.
 
 use super::*;
+use crate::inspected::{ask, Query};
 use crate::oracle::Course;
 use crate::ours::mock::Mock;
+use crate::ours::Inspected;
 use crate::write::{self, Case};
 
 /// A reader of the format.
@@ -81,9 +83,9 @@ fn refusals_read_back() {
     assert!((2..=24).all(|number| counts[number] >= 5), "{counts:?}");
 }
 
-fn counts(broken: usize, spent: usize) -> Counts {
-    let [broken, spent] = [broken, spent].map(|count| count as u64);
-    Counts { stopped: broken + spent, broken, spent }
+fn counts(counts: [usize; 3]) -> Counts {
+    let [broken, spent, bits] = counts.map(|count| count as u64);
+    Counts { stopped: broken + spent, broken, spent, bits }
 }
 
 /// Records that stay broken, that turn, that are spent in their first row and later, and that are
@@ -97,7 +99,7 @@ impl Kinds {
             let kind = match (course.first(), course.last()) {
                 (1, 1) => 0,
                 (1, _) => 1,
-                (2, _) if course.0[0] == 2 => 2,
+                (2, _) if course.statuses[0] == 2 => 2,
                 (2, _) => 3,
                 _ => 4,
             };
@@ -114,11 +116,14 @@ impl Kinds {
 fn records_read_back() {
     let mut seen = Kinds::default();
     read_all("records", 150_000, |r| {
-        let [length, kind, m, columns, records, broken, spent] = r.words();
+        let [length, kind, m, columns, records, broken, spent, bits] = r.words();
         let packet = r.take(length);
         let shape = Shape { kind, m, columns };
         let numbers = r.numbers(records * shape.numbers());
-        assert_eq!(oracle::packet_coefficients(packet, shape, records), Ok((numbers, counts(broken, spent))));
+        assert_eq!(
+            oracle::packet_coefficients(packet, shape, records),
+            Ok((numbers, counts([broken, spent, bits])))
+        );
         assert!(records * shape.numbers() <= 1024 && kind.max(m).max(columns).max(records) < 256);
         seen.add(&oracle::packet_courses(packet, shape).unwrap());
     });
@@ -129,18 +134,18 @@ fn records_read_back() {
 fn tiles_read_back() {
     let mut seen = Kinds::default();
     read_all("tiles", 600_000, |r| {
-        let [length, refusal, width, height, rows, broken, spent] = r.words();
+        let [length, refusal, width, height, rows, broken, spent, bits] = r.words();
         let stream = r.take(length);
         let planes = [width, width / 2, width / 2].map(|columns| r.numbers(rows * columns));
         match oracle::decode(stream, [usize::MAX; 4]) {
-            Err(number) => assert_eq!([refusal, rows, broken, spent], [number as usize, 0, 0, 0]),
+            Err(number) => assert_eq!([refusal, rows, broken, spent, bits], [number as usize, 0, 0, 0, 0]),
             Ok(found) => {
                 assert_eq!([found.green, found.red, found.blue], planes);
                 let size = (found.size.width, found.size.height(), found.size.rows());
-                assert_eq!((size, found.counts), ((width, height, rows), counts(broken, spent)));
+                assert_eq!((size, found.counts), ((width, height, rows), counts([broken, spent, bits])));
                 let most = found.size.needed();
                 assert!(most[0] <= 1024 && most[1] <= 512 && most[3] <= 4096 && width.max(height) < 256);
-                seen.add(&oracle::courses(stream, found.size).unwrap());
+                seen.add(&found.courses);
             }
         }
     });
@@ -186,4 +191,41 @@ fn written_read_back() {
     });
     assert!([0, 2, 3, 4, 24, 25].into_iter().all(|number| numbers[number] >= 5), "{numbers:?}");
     assert!(last_4 >= 5 && numbers[0] > 200 && numbers[25] > 200, "{last_4} {numbers:?}");
+}
+
+/// Records of every packet, whole, broken, spent and empty ones of every group; refusals, bands that are
+/// too short, and what is not there.
+#[test]
+fn inspected_read_back() {
+    let (mut refusals, mut packets, mut groups, mut absent) = ([0; 25], [0; 13], [[0; 4]; 5], [0; 2]);
+    read_all("inspected", 400_000, |r| {
+        let [length, packet, record, lent, refusal, bytes, allowance, bits, broken, spent, written] =
+            r.words();
+        let stream = r.take(length);
+        let numbers = r.numbers(written);
+        let tile = oracle::tile_packets(stream);
+        let answer = ask(&Mock, stream, &tile, Query { packet, record, band: lent }).unwrap();
+        let words = [refusal, bytes, allowance, bits, broken, spent].map(|word| word as u64);
+        let [refusal, bytes, allowance, bits, broken, spent] = words;
+        assert_eq!(answer, Inspected { refusal, bytes, allowance, bits, broken, spent });
+        assert!(length <= inspected::MOST_BYTES && lent <= inspected::MOST_BAND && written <= lent);
+        refusals[refusal as usize] += 1;
+        let Ok(tile) = tile else {
+            return assert_eq!(written, 0);
+        };
+        if packet >= 13 || record >= tile[packet].records() {
+            absent[(packet < 13) as usize] += 1;
+            return assert_eq!((written, answer), (0, Inspected::default()));
+        }
+        packets[packet] += 1;
+        if refusal == 0 {
+            assert_eq!(numbers, tile[packet].record(record).0);
+            let kind = if bytes == 0 { 3 } else { broken + 2 * spent };
+            groups[oracle::ORDER[packet].0][kind as usize] += 1;
+        }
+    });
+    let refused = refusals[2..].iter().filter(|&&count| count >= 5).count();
+    assert!(refused >= 22 && refusals[3] == 0 && refusals[4] >= 5, "{refusals:?}");
+    assert!(packets.iter().all(|&count| count >= 5) && absent.iter().all(|&count| count >= 5));
+    assert!(groups.iter().flatten().all(|&count| count >= 5), "{groups:?}");
 }

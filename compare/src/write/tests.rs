@@ -3,8 +3,8 @@
 use super::draw::{edge_mode, extent, long_record, picture, picture_of, planes_of, planes_with, MOST};
 use super::*;
 use crate::encoder::{coefficient, Value};
-use crate::ours::mock::Mock;
-use crate::ours::{Decoded, Decoder, Lengths, Ours, Slices};
+use crate::ours::mock::{Mistake, Mock};
+use crate::ours::{Decoder, Ours};
 use crate::packets::{Record, UNIT};
 use crate::recovery::edge_value;
 use crate::size::Shape;
@@ -308,23 +308,7 @@ fn no_stream_is_longer() {
 /// A writer with one mistake.
 struct Mistaken(fn(&Case, &mut [i32], &mut [u8], &mut Written));
 
-impl Decoder for Mistaken {
-    fn tile_count(&self, strip: &[u8], frame: (usize, usize)) -> usize {
-        Mock.tile_count(strip, frame)
-    }
-
-    fn tile_field(&self, strip: &[u8], frame: (usize, usize), ordinal: usize, field: usize) -> usize {
-        Mock.tile_field(strip, frame, ordinal, field)
-    }
-
-    fn lengths(&self, stream: &[u8]) -> Lengths {
-        Mock.lengths(stream)
-    }
-
-    fn decode_stream(&self, stream: &[u8], slices: &mut Slices) -> Decoded {
-        Mock.decode_stream(stream, slices)
-    }
-}
+impl Mistake for Mistaken {}
 
 impl Writer for Mistaken {
     fn write_stream(

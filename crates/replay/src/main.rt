@@ -1,5 +1,6 @@
 // Replays fixed cases from standard input, each held against the answer that stands beside it, and prints for each kind how many came
 // out as they should. The input is what `compare vectors` writes: a count of cases, then the cases, each led by the number of its kind.
+mod inspected;
 mod listings;
 mod records;
 mod refusals;
@@ -32,12 +33,14 @@ const LISTINGS: usize = 5;
 
 const WRITTEN: usize = 6;
 
+const INSPECTED: usize = 7;
+
 // The kind of the next case; none where the input ends, and for a number that no kind has.
 fn next_kind() -> usize
-    ensures { λ r. ⌜ r < 7 ⌝ }
+    ensures { λ r. ⌜ r < 8 ⌝ }
 {
     let kind = next_word();
-    if WRITTEN < kind { NONE } else { kind }
+    if INSPECTED < kind { NONE } else { kind }
 }
 
 // The bytes of the words that lead a case of a kind; the first word is the length of its input.
@@ -47,9 +50,9 @@ fn head_length(kind: usize) -> usize
     match kind {
         STRIPS => 16,
         REFUSALS => 24,
-        RECORDS | TILES => 28,
+        RECORDS | TILES => 32,
         LISTINGS => 8,
-        WRITTEN => 44,
+        WRITTEN | INSPECTED => 44,
         _ => 0,
     }
 }
@@ -64,6 +67,7 @@ fn answer_length(kind: usize, head: &[u8]) -> usize
         TILES => tiles::answer_length(head),
         LISTINGS => listings::answer_length(head),
         WRITTEN => written::answer_length(head),
+        INSPECTED => inspected::answer_length(head),
         _ => 0,
     }
 }
@@ -79,6 +83,7 @@ fn right_answer(kind: usize, head: &[u8], input: &[u8], answer: &[u8]) -> bool
         TILES => tiles::right_case(head, input, answer),
         LISTINGS => listings::right_case(input, answer),
         WRITTEN => written::right_case(head, input, answer),
+        INSPECTED => inspected::right_case(head, input, answer),
         _ => false,
     }
 }
@@ -125,7 +130,7 @@ fn right_case(kind: usize) -> bool {
 
 // The next case's place in the tally: 2k where it comes out as it should, and 2k + 1 where not, for kind k.
 fn next_case() -> usize
-    ensures { λ r. ⌜ r < 14 ⌝ }
+    ensures { λ r. ⌜ r < 16 ⌝ }
 {
     let kind = next_kind();
     if right_case(kind) {
@@ -136,11 +141,11 @@ fn next_case() -> usize
 }
 
 // The tally of the cases that follow: each counts once.
-fn run(cases: usize) -> [usize; 14]
+fn run(cases: usize) -> [usize; 16]
     requires { ⌜ cases < 2 ^ 32 ⌝ }
-    ensures { λ r. ⌜ (length r ≡ 14) × (total r ≡ cases) ⌝ }
+    ensures { λ r. ⌜ (length r ≡ 16) × (total r ≡ cases) ⌝ }
 {
-    let mut tally = [0usize; 14];
+    let mut tally = [0usize; 16];
     let mut i = 0;
     while i < cases {
         let at = next_case();
@@ -151,8 +156,8 @@ fn run(cases: usize) -> [usize; 14]
 }
 
 // Prints how many cases of a kind came out as they should, and how many did not.
-fn report(name: &[u8], kind: usize, tally: &[usize])
-    requires { ⌜ 2 * kind + 1 < length (now tally) ⌝ }
+fn report(name: &[u8], kind: usize, tally: &[usize; 16])
+    requires { ⌜ kind < 8 ⌝ }
 {
     io::write_all(STDOUT_FILENO, name);
     io::print_decimal(STDOUT_FILENO, tally[2 * kind] as u64);
@@ -170,5 +175,6 @@ fn main() {
     report(b"tiles: ", TILES, &tally);
     report(b"listings: ", LISTINGS, &tally);
     report(b"written: ", WRITTEN, &tally);
+    report(b"inspected: ", INSPECTED, &tally);
     report(b"of no kind: ", NONE, &tally);
 }

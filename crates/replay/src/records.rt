@@ -1,6 +1,6 @@
-// Records: `coefficients::arw6_packet` on a packet, and the coefficients and the counts that it should give. A case is seven
-// little-endian words (the packet's length, kind, m, columns, records, broken records, spent records), the packet's bytes, and a word for
-// each coefficient.
+// Records: `coefficients::arw6_packet` on a packet, and the coefficients and the counts that it should give. A case is eight
+// little-endian words (the packet's length, kind, m, columns, records, broken records, spent records, bits), the packet's bytes, and a word
+// for each coefficient.
 ghost use Prim.Native.Nat.{_<_, _≤_, _^_};
 ghost use lib.ListN.{length};
 use crate::vectors::same;
@@ -11,7 +11,7 @@ use coefficients::arw6_packet;
 
 // The bytes of the coefficients.
 pub fn answer_length(head: &[u8]) -> usize
-    requires { ⌜ 28 ≤ length (now head) ⌝ }
+    requires { ⌜ 32 ≤ length (now head) ⌝ }
     ensures { λ r. ⌜ r < 2 ^ 34 ⌝ }
 {
     4 * (small(head, 16) * (small(head, 4) * small(head, 8) * small(head, 12)))
@@ -19,7 +19,7 @@ pub fn answer_length(head: &[u8]) -> usize
 
 // Whether the answer is the one of the case.
 fn right_counts(head: &[u8], counted: PacketCounts) -> bool
-    requires { ⌜ 28 ≤ length (now head) ⌝ }
+    requires { ⌜ 32 ≤ length (now head) ⌝ }
 {
     if counted.together != 1 {
         return false;
@@ -27,12 +27,15 @@ fn right_counts(head: &[u8], counted: PacketCounts) -> bool
     if counted.broken != word(head, 20) as u64 {
         return false;
     }
-    counted.spent == word(head, 24) as u64
+    if counted.spent != word(head, 24) as u64 {
+        return false;
+    }
+    counted.bits == word(head, 28) as u64
 }
 
 // Whether the packet gives the coefficients and the counts that it should.
 fn right_band(head: &[u8], packet: &[u8], want: &[u8], band: &mut [i32]) -> bool
-    requires { ⌜ 28 ≤ length (now head) ⌝ }
+    requires { ⌜ 32 ≤ length (now head) ⌝ }
 {
     let n = want.len() / 4;
     if band.len() < n {
@@ -53,7 +56,7 @@ fn right_band(head: &[u8], packet: &[u8], want: &[u8], band: &mut [i32]) -> bool
 
 // The same, with room for the coefficients.
 pub fn right_case(head: &[u8], packet: &[u8], want: &[u8]) -> bool
-    requires { ⌜ 28 ≤ length (now head) ⌝ }
+    requires { ⌜ 32 ≤ length (now head) ⌝ }
 {
     let mut band = [1i32; 1024];
     right_band(head, packet, want, &mut band)

@@ -1,21 +1,20 @@
 // Tiles: `tile::decode_stream` on a stream, and its answer and what the four lent slices should hold; and the stream's lengths. A case is
-// seven little-endian words (the stream's length, refusal, width, height, rows, broken records, spent records), the stream's bytes, and a
-// word for each number of green, red and blue. A refused stream has 0 in the last five words, and no planes.
+// eight little-endian words (the stream's length, refusal, width, height, rows, broken records, spent records, bits), the stream's bytes,
+// and a word for each number of green, red and blue. A refused stream has 0 in the last six words, and no planes.
 ghost use Prim.Native.Nat.{_<_, _≤_, _^_};
 ghost use lib.ListN.{length};
 use crate::vectors::PATTERN;
-use crate::vectors::all;
+use crate::vectors::right_numbers;
 use crate::vectors::right_work;
-use crate::vectors::same;
 use crate::vectors::small;
 use crate::vectors::word;
 use packets::lengths_of;
 use tile::Decoded;
 use tile::decode_stream;
 
-// Whether the counts are those of the case, and stopped is their sum.
+// Whether the counts are those of the case, and stopped is the sum of broken and spent.
 fn right_counts(head: &[u8], answer: Decoded) -> bool
-    requires { ⌜ 28 ≤ length (now head) ⌝ }
+    requires { ⌜ 32 ≤ length (now head) ⌝ }
 {
     let broken = word(head, 20);
     let spent = word(head, 24);
@@ -25,12 +24,15 @@ fn right_counts(head: &[u8], answer: Decoded) -> bool
     if answer.spent != spent as u64 {
         return false;
     }
+    if answer.bits != word(head, 28) as u64 {
+        return false;
+    }
     answer.stopped == (broken + spent) as u64
 }
 
 // Whether the answer is the one of the case.
 fn right_answer(head: &[u8], answer: Decoded) -> bool
-    requires { ⌜ 28 ≤ length (now head) ⌝ }
+    requires { ⌜ 32 ≤ length (now head) ⌝ }
 {
     if answer.refusal != word(head, 4) as u64 {
         return false;
@@ -47,34 +49,22 @@ fn right_answer(head: &[u8], answer: Decoded) -> bool
     right_counts(head, answer)
 }
 
-// Whether a slice starts with the words of b, and holds the pattern after them.
-fn right_plane(plane: &[i32], b: &[u8]) -> bool {
-    let n = b.len() / 4;
-    if plane.len() < n {
-        return false;
-    }
-    if !same(&plane[0..n], b) {
-        return false;
-    }
-    all(&plane[n..], PATTERN)
-}
-
 // Whether the planes are those of the case: one half of its words is green's, one quarter each is red's and blue's.
 fn right_planes(green: &[i32], red: &[i32], blue: &[i32], want: &[u8]) -> bool {
     let a = want.len() / 2;
     let b = a + want.len() / 4;
-    if !right_plane(green, &want[0..a]) {
+    if !right_numbers(green, &want[0..a]) {
         return false;
     }
-    if !right_plane(red, &want[a..b]) {
+    if !right_numbers(red, &want[a..b]) {
         return false;
     }
-    right_plane(blue, &want[b..])
+    right_numbers(blue, &want[b..])
 }
 
 // The numbers of work that a tile uses.
 fn work_length(head: &[u8]) -> usize
-    requires { ⌜ 28 ≤ length (now head) ⌝ }
+    requires { ⌜ 32 ≤ length (now head) ⌝ }
 {
     let w = small(head, 8);
     let n = (small(head, 12) + 15) / 16;
@@ -83,7 +73,7 @@ fn work_length(head: &[u8]) -> usize
 
 // Whether an accepted stream's lengths are those of the case: its size and rows, and as many numbers as its planes have.
 fn right_lengths(head: &[u8], stream: &[u8], want: &[u8]) -> bool
-    requires { ⌜ 28 ≤ length (now head) ⌝ }
+    requires { ⌜ 32 ≤ length (now head) ⌝ }
 {
     let work = work_length(head) as u64;
     let need = lengths_of(stream);
@@ -113,7 +103,7 @@ fn right_lengths(head: &[u8], stream: &[u8], want: &[u8]) -> bool
 
 // Decodes a stream into slices longer than it asks for, and compares.
 pub fn right_case(head: &[u8], stream: &[u8], want: &[u8]) -> bool
-    requires { ⌜ 28 ≤ length (now head) ⌝ }
+    requires { ⌜ 32 ≤ length (now head) ⌝ }
 {
     let mut green = [PATTERN; 1024];
     let mut red = [PATTERN; 512];
@@ -134,7 +124,7 @@ pub fn right_case(head: &[u8], stream: &[u8], want: &[u8]) -> bool
 
 // The bytes of the planes: green has rows · width words, red and blue have half as many each.
 pub fn answer_length(head: &[u8]) -> usize
-    requires { ⌜ 28 ≤ length (now head) ⌝ }
+    requires { ⌜ 32 ≤ length (now head) ⌝ }
     ensures { λ r. ⌜ r < 2 ^ 19 ⌝ }
 {
     8 * (small(head, 8) * small(head, 16))

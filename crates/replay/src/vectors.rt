@@ -75,6 +75,18 @@ pub fn all(numbers: &[i32], v: i32) -> bool
     true
 }
 
+// Whether a slice starts with the words of b, and holds the pattern after them.
+pub fn right_numbers(numbers: &[i32], b: &[u8]) -> bool {
+    let n = b.len() / 4;
+    if numbers.len() < n {
+        return false;
+    }
+    if !same(&numbers[0..n], b) {
+        return false;
+    }
+    all(&numbers[n..], PATTERN)
+}
+
 // Whether work starts with n zeros, and holds the pattern after them.
 pub fn right_work(work: &[i32], n: usize) -> bool {
     if work.len() < n {

@@ -10,13 +10,13 @@ use Rattle.replay.proofs.run.Statement.{statement}
 use Rattle.replay.proofs.run.Tie as tie
 
 abbrev Inv-loop : tie.InvT-loop
-Inv-loop cases tally₀ i₀ tally i = (length tally ≡ 14) × (total tally ≡ i) × (i ≤ cases)
+Inv-loop cases tally₀ i₀ tally i = (length tally ≡ 16) × (total tally ≡ i) × (i ≤ cases)
 
 abbrev μ-loop : tie.MeasureT-loop
 μ-loop cases tally₀ i₀ tally i = cases - i
 
 loop-holds : tie.Need-loop-holds Inv-loop μ-loop
-loop-holds c = (refl, total-none 14, omega arith)
+loop-holds c = (refl, total-none 16, omega arith)
 
 -- no count leaves the word
 counts : tie.Need-add-tally Inv-loop μ-loop
