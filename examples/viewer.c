@@ -1,5 +1,5 @@
 /* viewer WIDTH HEIGHT STRIP [PREFIX]: print the tiles of the strip in the file STRIP, in a frame of WIDTH by HEIGHT. With a PREFIX, decode
-   each tile and write its green plane as the picture PREFIX.K.pgm.
+   each tile, write its green plane as the picture PREFIX.K.pgm, and print how many bits its records took.
 
    Status 0: all good; 1: a file that can't be read or written, or a refusal; 2: bad usage. */
 #include <ctype.h>
@@ -132,7 +132,29 @@ static int refused(size_t tile, uint64_t refusal)
     return 0;
 }
 
-/* Decodes a tile and writes its picture. 0 where that fails, which is told. */
+/* Whether a stream that was accepted has a record: one that is there has some number, for which a band of none is too short. */
+static int is_there(const uint8_t *stream, size_t length, size_t packet, size_t record, int32_t *band)
+{
+    return arw6_record(stream, length, packet, record, band, 0).refusal == 4;
+}
+
+/* Prints the bits that decoding a tile took, and those that its records, read one by one into the band, took of their allowances. */
+static void print_bits(const uint8_t *stream, size_t length, size_t tile, uint64_t decoded, int32_t *band, size_t band_len)
+{
+    uint64_t bits = 0, allowance = 0;
+    size_t records = 0;
+    for (size_t packet = 0; packet < 13; packet++)
+        for (size_t record = 0; is_there(stream, length, packet, record, band); record++) {
+            struct arw6_record got = arw6_record(stream, length, packet, record, band, band_len);
+            bits += got.bits;
+            allowance += got.allowance;
+            records++;
+        }
+    printf("tile %zu: %llu bits; %zu records took %llu of %llu\n", tile, (unsigned long long)decoded, records, (unsigned long long)bits,
+           (unsigned long long)allowance);
+}
+
+/* Decodes a tile, writes its picture and prints its bits. 0 where that fails, which is told. */
 static int decode_tile(const uint8_t *stream, size_t length, size_t tile, const char *name)
 {
     struct arw6_lengths need = arw6_lengths(stream, length);
@@ -150,6 +172,8 @@ static int decode_tile(const uint8_t *stream, size_t length, size_t tile, const 
         if (got.broken) /* spent records are ordinary */
             fprintf(stderr, "tile %zu: broken records: %llu; the picture is damaged there\n", tile, (unsigned long long)got.broken);
         done = got.refusal ? refused(tile, got.refusal) : write_picture(name, green, got.width, coded_rows(got));
+        if (done) /* the work slice is longer than any record */
+            print_bits(stream, length, tile, got.bits, work, need.work);
     } else {
         fprintf(stderr, "tile %zu: not enough memory\n", tile);
     }

@@ -37,6 +37,8 @@ pub struct DecodedTile {
     pub broken: usize,
     /// Records that first ran past their bits, as the coder lets them on an evenly lit lining.
     pub spent: usize,
+    /// The bits that all records took from their allowances.
+    pub bits: u64,
 }
 
 /// What a call that was accepted says of the planes it wrote.
@@ -55,12 +57,14 @@ pub struct Decoded {
     pub broken: usize,
     /// Records that first ran past their bits, as the coder lets them on an evenly lit lining.
     pub spent: usize,
+    /// The bits that all records took from their allowances.
+    pub bits: u64,
 }
 
 /// Decodes one tile stream. `_parallel` is the original's and is ignored: the order is plain.
 pub fn decode_stream(stream: &[u8], _parallel: bool) -> Result<DecodedTile, Error> {
     let mut buffers = Buffers::default();
-    let Decoded { width, height, rows, stopped, broken, spent } = buffers.decode(stream)?.decoded;
+    let Decoded { width, height, rows, stopped, broken, spent, bits } = buffers.decode(stream)?.decoded;
     let plane = |cols: usize, data: Vec<i32>| Plane { rows, cols, data };
     Ok(DecodedTile {
         full_green: plane(width, buffers.green),
@@ -71,6 +75,7 @@ pub fn decode_stream(stream: &[u8], _parallel: bool) -> Result<DecodedTile, Erro
         stopped,
         broken,
         spent,
+        bits,
     })
 }
 
@@ -93,6 +98,7 @@ pub fn decode_stream_into(
             stopped: answer.stopped as usize,
             broken: answer.broken as usize,
             spent: answer.spent as usize,
+            bits: answer.bits,
         }),
         number => Err(Refusal::new(number)),
     }

@@ -58,6 +58,7 @@ mod tests {
             stopped: 9,
             broken: 4,
             spent: 5,
+            bits: 77,
         };
         let mut hash = Sha256::default();
         hash.update(b"ARW6 planes 1\n\x02\x01\0\0\x04\x03\0\0");

@@ -9,9 +9,9 @@ use std::fmt;
 pub enum Error {
     /// The stream or the planes were refused; of decoding, no number of any slice was changed.
     Refused(Refusal),
-    /// The memory for the planes of a tile, or for writing them, cannot be had.
+    /// The memory for the planes of a tile, for writing them or for records cannot be had.
     Memory {
-        /// How many numbers of 32 bits the tile takes in all.
+        /// How many numbers of 32 bits that is in all.
         numbers: usize,
     },
 }

@@ -14,8 +14,8 @@ pub struct Lengths {
     pub work: u64,
 }
 
-/// The answer for a stream; a refusal has 0 in all other fields. The height is the coded height H, and
-/// `stopped` is the sum of `broken` and `spent`.
+/// The answer for a stream; a refusal has 0 in all other fields. The height is the coded height H,
+/// `stopped` is the sum of `broken` and `spent`, and `bits` is what the records took from their allowances.
 #[repr(C)]
 #[derive(Debug, Clone, Copy, Default, PartialEq, Eq)]
 pub struct Decoded {
@@ -24,6 +24,20 @@ pub struct Decoded {
     pub height: u64,
     pub rows: u64,
     pub stopped: u64,
+    pub broken: u64,
+    pub spent: u64,
+    pub bits: u64,
+}
+
+/// The answer for one record of a stream; a refusal, and a record that isn't there, have 0 in all other
+/// fields.
+#[repr(C)]
+#[derive(Debug, Clone, Copy, Default, PartialEq, Eq)]
+pub struct Inspected {
+    pub refusal: u64,
+    pub bytes: u64,
+    pub allowance: u64,
+    pub bits: u64,
     pub broken: u64,
     pub spent: u64,
 }
@@ -59,6 +73,14 @@ extern "C" {
         work: *mut i32,
         work_len: usize,
     ) -> Decoded;
+    fn arw6_record(
+        stream: *const u8,
+        stream_len: usize,
+        packet: usize,
+        record: usize,
+        band: *mut i32,
+        band_len: usize,
+    ) -> Inspected;
     fn arw6_write_stream(
         green: *const i32,
         green_len: usize,
@@ -116,6 +138,12 @@ pub fn decode_stream(
             work.len(),
         )
     }
+}
+
+/// One record of a packet, 0 to 12, into the start of the band.
+pub fn record(stream: &[u8], packet: usize, record: usize, band: &mut [i32]) -> Inspected {
+    // SAFETY: as for decoding.
+    unsafe { arw6_record(stream.as_ptr(), stream.len(), packet, record, band.as_mut_ptr(), band.len()) }
 }
 
 /// The stream of a tile of a coded width and height from its planes, green, red and blue, with the work

@@ -1,6 +1,11 @@
 //! How many numbers a caller lends for a stream.
 
 use crate::{ffi, Refusal};
+use std::ops::Range;
+
+/// The bytes of a stream's header, and where its half height stands.
+const HEADER: usize = 128;
+const HALF_HEIGHT: Range<usize> = 10..12;
 
 /// The coded size of a stream, the rows of its planes, and the numbers that the three planes and the
 /// work slice take, at least.
@@ -44,12 +49,20 @@ impl Lengths {
     }
 }
 
+/// The coded width of a stream, also of one that is too large for planes (refusal 3): it is that of the
+/// same header with the least height. Refusal 2 where that is not valid.
+pub(crate) fn coded_width(stream: &[u8]) -> Result<usize, Refusal> {
+    let mut header = *stream.first_chunk::<HEADER>().ok_or(Refusal::new(2))?;
+    header[HALF_HEIGHT].copy_from_slice(&1u16.to_be_bytes());
+    Lengths::of(&header).map(|lengths| lengths.width)
+}
+
 /// A valid stream header with a width and a half height, and nothing else.
-fn header_of(width: u16, half_height: u16) -> [u8; 128] {
-    let mut stream = [0; 128];
+fn header_of(width: u16, half_height: u16) -> [u8; HEADER] {
+    let mut stream = [0; HEADER];
     stream[..4].copy_from_slice(b"A000");
     stream[8..10].copy_from_slice(&width.to_be_bytes());
-    stream[10..12].copy_from_slice(&half_height.to_be_bytes());
+    stream[HALF_HEIGHT].copy_from_slice(&half_height.to_be_bytes());
     stream[12..16].copy_from_slice(&[1, 0, 0x6c, 0]);
     stream
 }
@@ -83,5 +96,15 @@ mod tests {
         let number = |(width, height)| Lengths::of_size(width, height).unwrap_err().number();
         assert!(sizes.into_iter().all(|size| number(size) == 2));
         assert_eq!(number((65_520, 131_070)), 3);
+    }
+
+    #[test]
+    fn widths_of_streams() {
+        for (width, half_height) in [(16, 1), (16, 13), (65_520, 2), (65_520, 65_535)] {
+            assert_eq!(coded_width(&header_of(width, half_height)), Ok(width as usize));
+        }
+        for stream in [&header_of(0, 13)[..], &header_of(8, 13), &header_of(16, 13)[..127], &[]] {
+            assert_eq!(coded_width(stream).unwrap_err().number(), 2);
+        }
     }
 }

@@ -6,6 +6,7 @@ mod digest;
 mod error;
 mod ffi;
 mod lengths;
+mod record;
 mod recovery;
 mod refusal;
 mod sha256;
@@ -17,6 +18,7 @@ pub use decode::{decode_stream, decode_stream_into, Buffers, Decoded, DecodedTil
 pub use digest::digest;
 pub use error::Error;
 pub use lengths::Lengths;
+pub use record::{inspect_record, inspect_record_into, records, Record, RecordState};
 pub use recovery::{Cause, Colour, Fault, Span};
 pub use refusal::{meaning, Refusal};
 pub use tiles::{find_streams, TileStream};

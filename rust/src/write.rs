@@ -29,7 +29,8 @@ pub fn write_stream(
     Ok(stream)
 }
 
-fn reserve<T: Copy + Default>(slice: &mut Vec<T>, length: usize) -> Result<(), TryReserveError> {
+/// So many elements, all of them 0.
+pub(crate) fn reserve<T: Copy + Default>(slice: &mut Vec<T>, length: usize) -> Result<(), TryReserveError> {
     slice.try_reserve_exact(length)?;
     slice.resize(length, T::default());
     Ok(())

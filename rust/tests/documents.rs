@@ -57,6 +57,9 @@ fn the_sample_as_shown() {
         let output = Command::new(TOOL).args([command, "samples/joint.frame"]).current_dir(root).output();
         assert!(README.contains(&outcome(output.unwrap()).1));
     }
+    let lines = run(&["records", SAMPLE_FILE]).1;
+    let shown: String = lines.split_inclusive('\n').take(5).collect();
+    assert!(README.contains(&format!("```\n{shown}```\n")));
     let out = folder("sample-as-shown");
     let lines = run(&["planes", SAMPLE_FILE, "--out", word(&out)]).1;
     assert!(README.contains(lines.split_once('\n').unwrap().1));

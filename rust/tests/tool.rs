@@ -188,7 +188,9 @@ fn damage() {
         assert_eq!(strict, (1, lines, error));
     }
     let told = fs::read_to_string(folder.join("out/flipped.frame.planes/tiles.json")).unwrap();
-    assert!(told.contains(&format!("\"stopped\":{stopped},\"broken\":{broken},\"spent\":{spent}")));
+    let counts =
+        format!("\"stopped\":{stopped},\"broken\":{broken},\"spent\":{spent},\"bits\":{}", tile.bits);
+    assert!(told.contains(&counts));
     assert_eq!(run(&["tiles", "--strict", SAMPLE_FILE]).0, 0);
 }
 
@@ -213,7 +215,7 @@ fn spent_records() {
         assert_eq!((status, error.as_str()), (0, ""));
         assert_eq!(lines.matches(&counts(0, 2)).count(), 2, "{lines}");
         let json = run(&[&words[..], &["--json"]].concat()).1;
-        assert_eq!(json.matches("\"stopped\":2,\"broken\":0,\"spent\":2").count(), 2);
+        assert_eq!(json.matches("\"stopped\":2,\"broken\":0,\"spent\":2,\"bits\":256").count(), 2);
     }
     let list = file(&folder, "LIST", run(&["digest", &path]).1.as_bytes());
     let checked = format!("{path}: tile 0: OK\n{path}: tile 1: OK\n");
@@ -238,7 +240,7 @@ fn json() {
     let (status, out, _) = run(&["tiles", "--json", &good, &bad, "nowhere"]);
     let lines: Vec<&str> = out.lines().collect();
     assert_eq!((status, lines.len()), (1, 3));
-    let first = "\"tile\":0,\"offset\":512,\"length\":92336,\"x\":0,\"y\":0,\"width\":320,\"height\":480,\"rows\":240,\"stopped\":0,\"broken\":0,\"spent\":0}";
+    let first = "\"tile\":0,\"offset\":512,\"length\":92336,\"x\":0,\"y\":0,\"width\":320,\"height\":480,\"rows\":240,\"stopped\":0,\"broken\":0,\"spent\":0,\"bits\":723384}";
     assert!(lines[0].starts_with(&format!(
         "{{\"file\":\"{good}\",\"frame\":{{\"width\":640,\"height\":480}},\"tiles\":[{{{first},"
     )));
@@ -246,7 +248,7 @@ fn json() {
     assert!(lines[2].starts_with("{\"file\":\"nowhere\",\"error\":\""));
     let (_, out, _) = run(&["digest", "--json", &good]);
     let digest = support::DIGESTS.split(' ').nth(1).unwrap();
-    let fields = format!("\"tile\":0,\"tiles\":2,\"definition\":\"ARW6-planes-1\",\"digest\":\"{digest}\",\"width\":320,\"height\":480,\"rows\":240,\"stopped\":0,\"broken\":0,\"spent\":0");
+    let fields = format!("\"tile\":0,\"tiles\":2,\"definition\":\"ARW6-planes-1\",\"digest\":\"{digest}\",\"width\":320,\"height\":480,\"rows\":240,\"stopped\":0,\"broken\":0,\"spent\":0,\"bits\":723384");
     assert_eq!(out.lines().next(), Some(format!("{{\"file\":\"{good}\",{fields}}}").as_str()));
     let out = run(&["planes", "--json", &good, "-o", word(&folder.join("out"))]).1;
     assert!(out.contains("\"folder\":\"") && out.contains("\"green\":{\"least\":-1639,\"greatest\":1662}"));
@@ -276,7 +278,7 @@ fn folders_are_gone_through() {
 
 #[test]
 fn usage() {
-    let wrong: [&[&str]; 19] = [
+    let wrong: [&[&str]; 21] = [
         &[],
         &["tile"],
         &["tiles"],
@@ -296,6 +298,8 @@ fn usage() {
         &["digest", "a", "--quiet"],
         &["digest", "a", "--force"],
         &["digest", "--check", "-r", "a"],
+        &["records"],
+        &["records", "a", "--check"],
     ];
     for words in wrong {
         let (status, out, error) = run(words);
@@ -310,10 +314,14 @@ fn usage() {
 
 #[test]
 fn help() {
-    for words in [vec!["--help"], vec!["tiles", "--help"], vec!["planes", "-h"], vec!["digest", "--help"]] {
+    let commands = ["tiles", "planes", "digest", "records", "write"];
+    let all = commands.iter().flat_map(|command| ["--help", "-h"].map(|word| vec![*command, word]));
+    for words in [vec!["--help"]].into_iter().chain(all) {
         let (status, out, error) = run(&words);
         assert_eq!((status, error.as_str()), (0, ""));
         assert!(out.starts_with("arw6") && out.lines().all(|line| line.len() <= 92));
+        let named: &[&str] = if words.len() == 1 { &commands } else { &words[..1] };
+        assert!(named.iter().all(|command| out.contains(&format!("arw6 {command} "))));
     }
     for word in ["--version", "-V"] {
         assert_eq!(run(&[word]).1, format!("arw6 {}\n", env!("CARGO_PKG_VERSION")));

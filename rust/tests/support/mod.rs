@@ -1,6 +1,7 @@
 //! Streams and strips that the tests share.
 #![allow(dead_code)]
 
+pub mod refused;
 pub mod tiff;
 pub mod tool;
 
@@ -70,7 +71,7 @@ pub fn repeated_tile(width: usize, height: usize, times: usize) -> Vec<u8> {
     repeated_stream((width, height), &flat_stream(width, height), times)
 }
 
-fn repeated_stream(frame: (usize, usize), stream: &[u8], times: usize) -> Vec<u8> {
+pub fn repeated_stream(frame: (usize, usize), stream: &[u8], times: usize) -> Vec<u8> {
     let mut strip = vec![0; 512];
     strip[0] = times as u8;
     strip.extend(stream);
@@ -87,6 +88,22 @@ pub const BROKEN: [u8; 16] = [0x80, 0, 0, 0, 0, 0, 0, 0, 0, 0, 0, 0, 0, 0, 0, 1]
 /// The first packets of groups 3 and 4 among the tile's 13.
 pub const GROUP_3: usize = 9;
 pub const GROUP_4: usize = 12;
+
+/// The number of a packet that stands at a place of a stream: groups 0 to 3 of green, of red and of blue,
+/// then group 4.
+pub fn packet_number(place: usize) -> usize {
+    match place {
+        GROUP_4 => GROUP_4,
+        _ => 4 * (place % 3) + place / 3,
+    }
+}
+
+/// A flat stream of 48 by 26 in which the packet at a place lacks its last record, as it may there.
+pub fn stream_lacking(place: usize) -> Vec<u8> {
+    let mut stream = flat_stream(48, 26);
+    stream[128 * (1 + place) + 8] -= 1;
+    stream
+}
 
 /// A flat stream of 48 by 32 in which the first records of some packets have bytes, 96 at most.
 pub fn stream_with(records: &[(usize, &[u8])]) -> Vec<u8> {

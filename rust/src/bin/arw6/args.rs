@@ -15,6 +15,7 @@ pub enum Command {
     Tiles,
     Planes { folder: PathBuf, force: bool, picture: bool },
     Digest,
+    Records,
     Check { quiet: bool },
     Write { file: PathBuf, height: Option<usize>, bare: bool, force: bool },
 }
@@ -82,6 +83,7 @@ pub fn parse(mut words: impl Iterator<Item = OsString>) -> Result<Request, Strin
         Some("tiles") => (&COMMON, &[], help::TILES),
         Some("planes") => (&COMMON, &["--out", "--force", "--no-picture"], help::PLANES),
         Some("digest") => (&COMMON, &["--check", "--quiet"], help::DIGEST),
+        Some("records") => (&COMMON, &[], help::RECORDS),
         Some("write") => (&["--json"], &["--out", "--force", "--height", "--stream"], help::WRITE),
         Some("--help" | "-h" | "help") => return Ok(Request::Show(help::ALL.to_string())),
         Some("--version" | "-V") => return Ok(Request::Show(version())),
@@ -221,6 +223,7 @@ impl Words {
             }
             Some("digest") if self.has("--quiet") => return Err("--quiet goes with --check".to_string()),
             Some("digest") => Command::Digest,
+            Some("records") => Command::Records,
             _ => Command::Tiles,
         })
     }

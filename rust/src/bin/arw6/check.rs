@@ -74,7 +74,7 @@ fn check(line: &Line, frame: &Frame, buffers: &mut Buffers, damage: &mut Damage)
     let mut same = false;
     if line.tile < frame.tiles.len() {
         let (found, decoded) = line_of(&line.path, frame, line.tile, buffers)?;
-        damage.add(line.tile, &decoded);
+        damage.add(line.tile, decoded.broken);
         same = found == *line;
     }
     Ok(if same { OK } else { "FAILED" }.to_string())

@@ -37,7 +37,7 @@ pub fn run(path: &Path, frame: &Frame, as_json: bool, buffers: &mut Buffers) -> 
     let mut damage = Damage::default();
     for k in 0..frame.tiles.len() {
         let (line, decoded) = line_of(path, frame, k, buffers)?;
-        damage.add(k, &decoded);
+        damage.add(k, decoded.broken);
         outcome.out += &if as_json { as_object(&line, &decoded) } else { line.text() };
         outcome.out += "\n";
     }

@@ -42,4 +42,12 @@ impl Failure {
         };
         Failure::new(kind, format!("tile {k}: {error}"))
     }
+
+    /// What a listing says of a tile that was not decoded.
+    pub fn word(&self) -> String {
+        match self.kind {
+            Kind::Refused(number) => format!("refused {number}"),
+            _ => "not decoded".to_string(),
+        }
+    }
 }

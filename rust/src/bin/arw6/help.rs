@@ -7,6 +7,7 @@ arw6: what Sony ARW6 raw files hold, by the proved decoder
   arw6 planes FILE.. --out DIR    write the numbers of green, red and blue, and pictures
   arw6 digest FILE.. > LIST       note a SHA-256 of each tile's planes
   arw6 digest --check LIST        say whether the files still give those planes
+  arw6 records FILE..             list how long each record is and how much of it was read
   arw6 write G.npy R.npy B.npy --out FILE
                                   a frame file that decodes to exactly these planes
   arw6 COMMAND --help             more about a command
@@ -67,6 +68,26 @@ it was given. docs/DIGEST.md defines all of it down to the byte.
 With --check each line of the lists is made anew from its file and held against the list:
 OK, FAILED, missing, unreadable or refused with its number. --quiet leaves out those that
 are OK. Status 1 if any is not OK, or if a list has other lines.
+";
+
+pub const RECORDS: &str = "\
+arw6 records FILE.. [-r] [-j N] [--json] [--strict] [--frame WxH]
+
+Reads each record and prints 'tile packet record bytes allowance bits state' and a line of
+these for each. Packets 0 to 3 are groups 0 to 3 of green, 4 to 7 those of red, 8 to 11
+those of blue, and 12 is group 4. Tiles and records count from 0 as well; one that a packet
+may lack and does is not listed.
+
+bytes      the record's byte length
+allowance  the bits that it may take, 128 for each 16 bytes that its length begins
+bits       the bits that it took, the allowance at most
+state      sound: read to its end. broken: met a bit width above 19, which is damage.
+           spent: ran past its bits, which is ordinary on an evenly lit lining; they are all
+           taken then. empty: its length is 0, nothing is read, and its numbers are 0
+
+A tile that is refused has one line, its number and 'refused N', and the first such one is
+told on standard error. One that is too large for planes (refusal 3) has its records listed.
+With more than one file, the file's name and a colon come first.
 ";
 
 pub const WRITE: &str = "\

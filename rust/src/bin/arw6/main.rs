@@ -1,4 +1,4 @@
-//! The command line tool `arw6`: tiles, planes and digests of camera files, and frames from planes.
+//! The command line tool `arw6`: tiles, planes, digests and records of camera files, and frames from planes.
 
 mod args;
 mod batch;
@@ -16,6 +16,7 @@ mod npy;
 mod picture;
 mod planes;
 mod png;
+mod records;
 mod results;
 mod tiles;
 mod walk;
@@ -97,10 +98,12 @@ fn one_file(job: &Job, input: &Input, alone: bool, buffers: &mut Buffers) -> Out
             planes::run(path, &frame, target, options, buffers)
         }
         Command::Digest => digest::run(path, &frame, job.json, buffers),
+        Command::Records => Ok(records::run(path, &frame, job.json)),
         _ => Ok(tiles::run(path, &frame, job.json, buffers)),
     });
     let mut outcome = outcome.unwrap_or_else(|failure| Outcome::failed(path, failure, job.json));
-    if matches!(job.command, Command::Tiles) && !alone && !job.json && !outcome.out.is_empty() {
+    let listing = matches!(job.command, Command::Tiles | Command::Records);
+    if listing && !alone && !job.json && !outcome.out.is_empty() {
         outcome.out.insert_str(0, &format!("{}:\n", names::shown(path)));
     }
     outcome

@@ -7,7 +7,7 @@ use crate::input::Frame;
 use crate::json::{list, number, object, path as path_fields, text};
 use crate::line::{hex, DEFINITION};
 use crate::names::shown;
-use crate::results::{decoded_fields, frame_fields, records, tile_fields, Damage};
+use crate::results::{decoded_fields, frame_fields, stopped_words, tile_fields, Damage};
 use crate::{npy, picture};
 use arw6::{Buffers, Decoded, TilePlanes, TileStream};
 use std::io::Write;
@@ -45,7 +45,7 @@ pub fn run(
     for (k, tile) in frame.tiles.iter().enumerate() {
         let planes = buffers.decode(frame.stream(tile)).map_err(|error| Failure::decoding(k, error))?;
         write(&folder, k, &planes, options.picture).map_err(unwritten)?;
-        damage.add(k, &planes.decoded);
+        damage.add(k, planes.decoded.broken);
         said.tile(k, tile, &planes);
     }
     let tiles = [frame_fields(path, frame), vec![("tiles", list(&said.objects))]].concat();
@@ -97,7 +97,7 @@ impl Said {
             let ends = [("least", number(least)), ("greatest", number(greatest))];
             fields.push((colour, object(&ends)));
         }
-        self.lines += &format!("{line}, {}\n", records(&planes.decoded));
+        self.lines += &format!("{line}, {}\n", stopped_words(&planes.decoded));
         self.objects.push(object(&fields));
     }
 }

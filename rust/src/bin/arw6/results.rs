@@ -16,9 +16,9 @@ pub type Fields = Vec<(&'static str, String)>;
 pub struct Damage(Vec<(usize, usize)>);
 
 impl Damage {
-    pub fn add(&mut self, tile: usize, decoded: &Decoded) {
-        if decoded.broken > 0 {
-            self.0.push((tile, decoded.broken));
+    pub fn add(&mut self, tile: usize, broken: usize) {
+        if broken > 0 {
+            self.0.push((tile, broken));
         }
     }
 
@@ -75,17 +75,30 @@ pub fn tile_fields(k: usize, tile: &TileStream) -> Fields {
     ]
 }
 
-pub fn decoded_fields(decoded: &Decoded) -> Fields {
+/// What is counted over the records of a tile.
+pub struct Counts {
+    pub broken: usize,
+    pub spent: usize,
+    /// What they took from their allowances.
+    pub bits: u64,
+}
+
+pub fn count_fields(counts: Counts) -> Fields {
     vec![
-        ("rows", number(decoded.rows)),
-        ("stopped", number(decoded.stopped)),
-        ("broken", number(decoded.broken)),
-        ("spent", number(decoded.spent)),
+        ("stopped", number(counts.broken + counts.spent)),
+        ("broken", number(counts.broken)),
+        ("spent", number(counts.spent)),
+        ("bits", number(counts.bits)),
     ]
 }
 
-/// The counts of records as a line has them.
-pub fn records(decoded: &Decoded) -> String {
+pub fn decoded_fields(decoded: &Decoded) -> Fields {
+    let Decoded { rows, broken, spent, bits, .. } = *decoded;
+    [vec![("rows", number(rows))], count_fields(Counts { broken, spent, bits })].concat()
+}
+
+/// Broken and spent records as a line has them.
+pub fn stopped_words(decoded: &Decoded) -> String {
     format!("broken {} spent {}", decoded.broken, decoded.spent)
 }
 

@@ -1,10 +1,12 @@
 //! `arw6 tiles`: where the tiles are, and whether each decodes.
 
 use crate::batch::Outcome;
-use crate::failure::{Failure, Kind};
+use crate::failure::Failure;
 use crate::input::Frame;
 use crate::json::{list, object};
-use crate::results::{decoded_fields, failure_fields, frame_fields, records, tile_fields, Damage, Fields};
+use crate::results::{
+    decoded_fields, failure_fields, frame_fields, stopped_words, tile_fields, Damage, Fields,
+};
 use arw6::{Buffers, Decoded, TileStream};
 use std::path::Path;
 
@@ -23,7 +25,7 @@ pub fn run(path: &Path, frame: &Frame, as_json: bool, buffers: &mut Buffers) -> 
     let mut damage = Damage::default();
     for (k, (_, decoded)) in tiles.iter().enumerate() {
         match decoded {
-            Ok(decoded) => damage.add(k, decoded),
+            Ok(decoded) => damage.add(k, decoded.broken),
             Err(failure) => outcome.fail(path, failure),
         }
     }
@@ -37,9 +39,8 @@ fn as_lines(tiles: &Tiles) -> String {
     for (tile, decoded) in tiles {
         let TileStream { offset, length, x, y, width, height, .. } = tile;
         let end = match decoded {
-            Ok(decoded) => records(decoded),
-            Err(Failure { kind: Kind::Refused(number), .. }) => format!("refused {number}"),
-            Err(_) => "not decoded".to_string(),
+            Ok(decoded) => stopped_words(decoded),
+            Err(failure) => failure.word(),
         };
         lines += &format!("{offset} {length} {x} {y} {width} {height} {end}\n");
     }
