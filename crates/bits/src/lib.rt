@@ -1,6 +1,8 @@
 // The coefficient bit reader.
 ghost use mathlib.Core.Path.{_≡_};
+ghost use mathlib.Core.Bool.{cond};
 ghost use Prim.Native.Nat.{_+_, _/_, _^_, _<_, _≤_};
+ghost use lib.Dec.{leb};
 ghost use lib.ListN.{length};
 ghost use Rattle.format.specs.Bits.{bitsAt, zerosAt};
 ghost use Rattle.format.specs.Reader.{allowance, startOf, skipped, spent, readOf, unaryOf, findOf, updateSecond, updateOf, runOf, bitLength};
@@ -98,6 +100,23 @@ pub fn changed(word: u64, width: u64) -> Change
     }
 }
 
+// An update of width 0 out of a word: 10 gives a unary, and no bits are looked through after 11.
+fn opened(word: u64) -> Change
+    ensures { λ r. ⌜ (r ≡ changeOf word 0) × (r .used ≤ 67) ⌝ }
+{
+    if word < 0x8000_0000_0000_0000 {
+        return Change { width: 0, used: 1 };
+    }
+    if word < 0xC000_0000_0000_0000 {
+        let z = u64::leading_zeros(word << 2) as u64;
+        return Change {
+            width: z + 1,
+            used: z + 3,
+        };
+    }
+    Change { width: 0, used: 2 }
+}
+
 // The allowance of a byte length, in bits.
 pub fn allowance(bytes: u64) -> u64
     requires { ⌜ bytes < 2 ^ 36 ⌝ }
@@ -149,23 +168,25 @@ impl BitReader {
         BitReader::at(packet, self.place + self.remaining, 0, 2)
     }
 
-    // n bits.
+    // The status after n bits.
+    fn status_past(self, n: u64) -> u64
+        ensures { λ r. ⌜ r ≡ cond (leb n (self .remaining)) (self .status) 2 ⌝ }
+    {
+        if n <= self.remaining { self.status } else { 2 }
+    }
+
+    // n bits. Short, so that the compiler makes it part of each loop that reads.
     pub fn read(self, packet: &[u8], n: u64) -> Taken
         requires { ⌜ Ready (now packet) self ⌝ }
         requires { ⌜ n ≤ 57 ⌝ }
         ensures { λ r. ⌜ asTaken r ≡ readOf (now (packet .entry)) (asReader self) n ⌝ }
         ensures { λ r. ⌜ ReadyBelow (now (packet .entry)) r (2 ^ n) ⌝ }
     {
-        let left = self.remaining;
-        if n <= left {
-            return Taken {
-                value: top(self.cache, n),
-                reader: self.skip(packet, n),
-            };
-        }
+        let k = least(n, self.remaining);
+        let status = self.status_past(n);
         Taken {
-            value: top(self.cache, left) << (n - left),
-            reader: self.spend(packet),
+            value: top(self.cache, k) << (n - k),
+            reader: BitReader::at(packet, self.place + k, self.remaining - k, status),
         }
     }
 
@@ -274,6 +295,26 @@ impl BitReader {
         let u = changed(self.cache, width);
         if least(self.remaining, 57) < u.used {
             return self.width_first(packet, width);
+        }
+        Taken {
+            value: u.width,
+            reader: self.skip(packet, u.used),
+        }
+    }
+
+    // The width that a row opens with, an update of 0. It stands beside `width_update` so that each has one caller, and the compiler makes it
+    // part of that caller's loop.
+    pub fn width_opening(self, packet: &[u8]) -> Taken
+        requires { ⌜ Ready (now packet) self ⌝ }
+        ensures { λ r. ⌜ asTaken r ≡ updateOf (now (packet .entry)) (asReader self) 0 ⌝ }
+        ensures { λ r. ⌜ Ready (now (packet .entry)) (r .reader) ⌝ }
+    {
+        if self.status != 0 {
+            return self.width_first(packet, 0);
+        }
+        let u = opened(self.cache);
+        if least(self.remaining, 57) < u.used {
+            return self.width_first(packet, 0);
         }
         Taken {
             value: u.width,

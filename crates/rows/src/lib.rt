@@ -818,7 +818,7 @@ fn decode_row(reader: BitReader, packet: &[u8], dst: &mut [i32], selector: u64) 
     let lengths = LENGTHS;
     let n = dst.len();
     clear(dst);
-    let first = reader.width_update(packet, 0);
+    let first = reader.width_opening(packet);
     let mut r = first.reader;
     let mut width = first.value;
     let mut out: usize = 0;

@@ -24,14 +24,14 @@ loop-holds : tie.Need-loop-holds Inv-loop μ-loop
 loop-holds c =
     let a = c .before .before .before .before .before .before .args in
     let k = c .before .before .before .clear in
-    let first = c .before .width-update in
+    let first = c .before .width-opening in
     decoding-first (a .packet .now) (a .selector) (length (a .dst .now)) (k .last .0) (first .result .reader) (first .result .value) (k .kept .0) (first .ensures .1)
     (clean-all (k .last .0) (length (a .dst .now)) (k .ensures))
 
 returns : tie.Need-returns Inv-loop μ-loop
 returns c =
     let b = c .before .before .before .before in
-    decoding-halted (b .loop .inv) (asReader (b .before .before .before .before .before .before .before .args .reader)) (b .before .before .width-update .ensures .0) (c .before .before .before .loop-test .taken)
+    decoding-halted (b .loop .inv) (asReader (b .before .before .before .before .before .before .before .args .reader)) (b .before .before .width-opening .ensures .0) (c .before .before .before .loop-test .taken)
     (c .before .before .halts .ensures .0 (c .before .if1 .taken)) (c .stop .result) (c .stop .ensures .0) (c .stop .ensures .1 _)
 
 quick-requires : tie.Need-quick-requires Inv-loop μ-loop
@@ -47,7 +47,7 @@ quick-requires c κs =
 quicked : (c : tie.After-quick Inv-loop μ-loop)
     → let b = c .before .before .before .before .before .before .before in
     let a = b .before .before .before .before .before .before .before .args in
-    let w = b .before .before .width-update .result in
+    let w = b .before .before .width-opening .result in
     let q = c .quick in
     Decoding (a .packet .now) (a .selector) (length (a .dst .now)) (stateOf (w .value) (w .reader)) (b .before .before .before .before .clear .last .0) (q .last .1 .1 .1 .1 .0)
     (q .result .reader) (q .result .width) (q .result .out)
@@ -59,7 +59,7 @@ quicked c =
 returns-2 : tie.Need-returns-2 Inv-loop μ-loop
 returns-2 c =
     let b = c .before .before .before .before .before .before .before .before .before .before .before .before .before in
-    decoding-halted (quicked (c .before .before .before .before .before .before)) (asReader (b .before .before .before .before .before .before .before .args .reader)) (b .before .before .width-update .ensures .0) (c .before .before .before .if2 .taken)
+    decoding-halted (quicked (c .before .before .before .before .before .before)) (asReader (b .before .before .before .before .before .before .before .args .reader)) (b .before .before .width-opening .ensures .0) (c .before .before .before .if2 .taken)
     (c .before .before .halts2 .ensures .0 (c .before .if3 .taken)) (c .stop2 .result) (c .stop2 .ensures .0) (c .stop2 .ensures .1 _)
 
 plain-requires : tie.Need-plain-requires Inv-loop μ-loop
@@ -79,7 +79,7 @@ loop-again c =
 returns-3 : tie.Need-returns-3 Inv-loop μ-loop
 returns-3 c =
     let b = c .before in
-    decoding-done (b .loop .inv) (asReader (b .before .before .before .before .before .before .before .args .reader)) (b .before .before .width-update .ensures .0) (omega arith)
+    decoding-done (b .loop .inv) (asReader (b .before .before .before .before .before .before .before .args .reader)) (b .before .before .width-opening .ensures .0) (omega arith)
 
 pub decode-row-spec : {M : Type 1} → statement M
 decode-row-spec =
@@ -88,7 +88,7 @@ decode-row-spec =
     Inv-loop
     μ-loop
     (λ c κs. search needs)
-    (λ c κs. (c .before .before .before .before .pre .0, omega arith))
+    (λ c κs. c .before .before .before .before .pre .0)
     loop-holds
     (λ c κs. search needs)
     (λ c κs. search needs)
