@@ -1,4 +1,6 @@
 // The library for C: include/arw6.h declares these functions.
+#![tactic(auto)]
+
 ghost use Rattle.std.specs.Prelude.{◌≡◌, length};
 ghost use Rattle.format.specs.Strip.{tiles_of};
 ghost use Rattle.format.specs.Tile.{lengths_of, slice};

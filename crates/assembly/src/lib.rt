@@ -1,4 +1,6 @@
 // The stream that is written, from coefficients that stand in the work slice.
+#![tactic(auto)]
+
 ghost use Rattle.std.specs.Prelude.{◌≡◌, ℕ, ◌*◌, ◌^◌, ◌<◌, length};
 ghost use Rattle.lists.specs.Lists.{tab, rows};
 ghost use Rattle.format.specs.Packets.{sum};
@@ -17,7 +19,7 @@ use place::locate;
 use words::first_of;
 
 // What a stream takes: the units of its 13 packets, 26 where a length is too large, 0 where none is, and its bytes.
-#[derive(Drop)]
+#[derive(Clone, Copy)]
 pub struct Sizes {
     pub units: [u64; 13],
     pub refusal: u64,

@@ -10,7 +10,7 @@ use encoding::{BitWriter, Code, both, fill_up, put_record, record_bytes};
 use words::first_of;
 
 // What a packet's records hold: its components, the rows of a record, their columns; and how many records there are.
-#[derive(Drop)]
+#[derive(Clone, Copy)]
 pub struct Shape {
     pub components: u64,
     pub rows: usize,
@@ -19,7 +19,7 @@ pub struct Shape {
 }
 
 // The writer of a packet's headers, and that of its payload.
-#[derive(Drop)]
+#[derive(Clone, Copy)]
 pub struct Two {
     pub head: BitWriter,
     pub payload: BitWriter,
@@ -121,7 +121,7 @@ pub fn put_packet(out: &mut [u8], l: &[i32], z: Shape)
 }
 
 // What a packet takes: its units, and 26 where a record is too long.
-#[derive(Drop)]
+#[derive(Clone, Copy)]
 pub struct Extent {
     pub units: u64,
     pub refusal: u64,

@@ -41,7 +41,7 @@ pub fn packet_at(group: usize, index: usize, unit: usize) -> usize
 }
 
 // A packet in the work slice: its shape, its first number, and where it ends.
-#[derive(Drop)]
+#[derive(Clone, Copy)]
 pub struct Located {
     pub shape: Shape,
     pub start: usize,

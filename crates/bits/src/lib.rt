@@ -1,4 +1,6 @@
 // The coefficient bit reader.
+#![tactic(auto)]
+
 ghost use Rattle.std.specs.Prelude.{◌≡◌, cond, ◌+◌, ◌/◌, ◌^◌, ◌<◌, ◌≤◌, leb, length};
 ghost use Rattle.format.specs.Bits.{bits_at, zeros_at};
 ghost use Rattle.format.specs.Reader.{allowance, start_of, skipped, spent, read_of, unary_of, find_of, update_second, update_of, run_of, bit_length};
@@ -45,7 +47,7 @@ fn zeros_ahead(packet: &[u8], place: u64, cache: u64, limit: u64) -> u64
 }
 
 // A place in a packet's bits, a word of the bits from there, the bits left of the allowance, and the status.
-#[derive(Drop)]
+#[derive(Clone, Copy)]
 pub struct BitReader {
     pub place: u64,
     pub cache: u64,
@@ -54,14 +56,14 @@ pub struct BitReader {
 }
 
 // A value that was read, and the reader after it.
-#[derive(Drop)]
+#[derive(Clone, Copy)]
 pub struct Taken {
     pub value: u64,
     pub reader: BitReader,
 }
 
 // Four values that were read, and the reader after them.
-#[derive(Drop)]
+#[derive(Clone, Copy)]
 pub struct Four {
     pub a: u64,
     pub b: u64,
@@ -71,7 +73,7 @@ pub struct Four {
 }
 
 // A width, and the bits that its update took.
-#[derive(Drop)]
+#[derive(Clone, Copy)]
 pub struct Change {
     pub width: u64,
     pub used: u64,

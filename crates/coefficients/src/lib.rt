@@ -1,4 +1,6 @@
 // The coefficients of one packet for C.
+#![tactic(auto)]
+
 ghost use Rattle.std.specs.Prelude.{◌≡◌, cond, length};
 ghost use Rattle.format.specs.Coefficients.{packet_values};
 ghost use Rattle.coefficients.specs.Together.{together, answer_of};
@@ -34,7 +36,7 @@ fn fits(packet: &[u8], m: usize, cols: usize, n: usize, size: usize) -> bool
 // Whether packet, sizes and band go together, 1 or 0, how many records of the packet are broken and spent, and the bits
 // that they took.
 #[repr(C)]
-#[derive(Drop)]
+#[derive(Clone, Copy)]
 pub struct PacketCounts {
     pub together: u64,
     pub broken: u64,

@@ -1,4 +1,6 @@
 // The bits of what is written: a bit writer by value, the codes of a row, rows and records. Document 02, Job 2; document 01, 'Coefficients'.
+#![tactic(auto)]
+
 ghost use Rattle.std.specs.Prelude.{◌≡◌, List, ◌++◌, ℕ, ◌+◌, ◌-◌, ◌*◌, ◌/◌, ◌%◌, ◌^◌, ◌<◌, ◌≤◌, max, length, get_or, pos, nat_abs, eqb};
 ghost use Rattle.format.specs.Writing.{number_bits, update_bits, run_bits, group_width, zero_groups, value_bits, sign_bits, signs_bits, next_bits, row_bits, zero_bits, units, filled, packed};
 ghost use Rattle.encoding.specs.Wrote.{fresh, Wrote, Room, Appends, line, Small};
@@ -40,7 +42,7 @@ fn joined(x: u64, n: u64, v: u64) -> u64
 }
 
 // The bytes that are out, the bits that are not, the last the least significant, and how many those are.
-#[derive(Drop)]
+#[derive(Clone, Copy)]
 pub struct BitWriter {
     pub place: usize,
     pub cache: u64,
@@ -102,7 +104,7 @@ impl BitWriter {
 }
 
 // Bits to be written: the last n of v.
-#[derive(Drop)]
+#[derive(Clone, Copy)]
 pub struct Code {
     pub n: u64,
     pub v: u64,
@@ -329,7 +331,7 @@ fn group_tail(row: &[i32], j: usize, g: usize, w: u64, next: u64) -> Code
 }
 
 // One turn of a row: the groups that it passes, the width of the next one, and the bits behind the values.
-#[derive(Drop)]
+#[derive(Clone, Copy)]
 pub struct Turn {
     pub groups: usize,
     pub width: u64,

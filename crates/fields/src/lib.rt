@@ -1,5 +1,7 @@
 // The fields of a stream's header and of a packet's, and the sizes that follow from them: document 01, 'Strip', 'Directory and packets' and
 // 'Planes'. Each stands here alone, under the document's name.
+#![tactic(auto)]
+
 ghost use Rattle.std.specs.Prelude.{◌≡◌, true, ◌*◌, ◌^◌, ◌<◌, ◌≤◌, length};
 ghost use Rattle.format.specs.Sizes.{green, red, numbered, components, multiplier, columns, stripes, guarded, plane_rows, plane_rows_of, plane_columns, work_length};
 ghost use Rattle.format.specs.Strip.{width, half_height, coded_height, group_size};

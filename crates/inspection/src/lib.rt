@@ -1,4 +1,6 @@
 // One record of a stream, for the rig: its byte length, its allowance, the bits that it took, and its coefficients.
+#![tactic(auto)]
+
 ghost use Rattle.std.specs.Prelude.{◌≡◌, cond, ◌++◌, ◌*◌, ◌^◌, ◌<◌, ◌≤◌, ltb, length, drop};
 ghost use Rattle.format.specs.Packets.{kind, payload_at};
 ghost use Rattle.format.specs.Coefficients.{record_of};
@@ -13,7 +15,7 @@ use records::decode_record;
 // A refusal with every other field 0; or the byte length of a record, its allowance, the bits that it took, and 1 where it is broken or
 // spent.
 #[repr(C)]
-#[derive(Drop)]
+#[derive(Clone, Copy)]
 pub struct Inspected {
     pub refusal: u64,
     pub bytes: u64,

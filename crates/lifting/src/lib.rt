@@ -1,4 +1,6 @@
 // The row kernels of synthesis: 5/3 lifting, E and running sums over rows of i32. Document 01, 'Synthesis'.
+#![tactic(auto)]
+
 ghost use Rattle.std.specs.Prelude.{◌≡◌, ◌+◌, ◌*◌, ◌≤◌, length};
 ghost use Rattle.lists.specs.Lists.{part, put_at, Clear};
 ghost use Rattle.lifting.specs.Lift.{low_step, high_step, low_row, high_row, end_row, lift_row, edge_row, sum_row};

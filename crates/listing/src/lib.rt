@@ -1,4 +1,6 @@
 // The listing that the program `tiles` prints: document 01, 'Points on the line'.
+#![tactic(auto)]
+
 ghost use Rattle.std.specs.Prelude.{◌≡◌, [], ◌∷◌, ◌+◌, ◌≤◌, ◌<◌, length};
 ghost use Rattle.lists.specs.Lists.{put_at, rows};
 ghost use Rattle.format.specs.Strip.{tiles_of};

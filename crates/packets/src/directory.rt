@@ -9,7 +9,7 @@ use strip::TileStream;
 use words::field;
 
 // Whether a group has an entry; a missing one is refusal 9.
-#[derive(Drop)]
+#[derive(Clone, Copy)]
 pub enum DirEntry {
     Present,
     Missing,

@@ -1,4 +1,6 @@
 // The checks of a stream, which write nothing: document 01, 'Refusals by place of check'. Every refusal is found here.
+#![tactic(auto)]
+
 ghost use Rattle.std.specs.Prelude.{◌≡◌, not, ◌&&◌, ◌+◌, ◌^◌, ◌<◌, ◌≤◌, length, eqb};
 ghost use Rattle.format.specs.Sizes.{numbered, indexed, packet_group, packet_index};
 ghost use Rattle.format.specs.Packets.{packet_start, packet_length, packet_of};
@@ -22,7 +24,7 @@ const MAX_PLANE_SAMPLES: usize = 134_217_728;
 // What to lend for a stream: a refusal with every other field 0, or 0 with the coded size, the rows of the planes and the numbers of each
 // slice.
 #[repr(C)]
-#[derive(Drop)]
+#[derive(Clone, Copy)]
 pub struct Lengths {
     pub refusal: u64,
     pub width: u64,
@@ -35,7 +37,7 @@ pub struct Lengths {
 }
 
 // The refusal of a stream, 0 for none; the coded size where there is none.
-#[derive(Drop)]
+#[derive(Clone, Copy)]
 pub struct Checked {
     pub refusal: u32,
     pub width: usize,

@@ -1,4 +1,6 @@
 // The coefficients of a tile from its planes, in the work slice: document 01, 'Recovery'. Levels are undone in its last quarter, the scratch.
+#![tactic(auto)]
+
 ghost use Rattle.std.specs.Prelude.{◌≡◌, false, cond, ℕ, ◌+◌, ◌*◌, ◌/◌, ◌^◌, ◌≤◌, ◌<◌, length, take};
 ghost use Rattle.lists.specs.Lists.{part, put_at};
 ghost use Rattle.lifting.specs.Lift.{at};

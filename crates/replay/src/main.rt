@@ -1,5 +1,7 @@
 // Replays fixed cases from standard input, each held against the answer that stands beside it, and prints for each kind how many came
 // out as they should. The input is what `compare vectors` writes: a count of cases, then the cases, each led by the number of its kind.
+#![tactic(auto)]
+
 mod inspected;
 mod listings;
 mod records;

@@ -1,5 +1,7 @@
 // Rows of recovered bands go back to their places in the packets of the work slice: E undone, band 0 as steps. Refusal 25 is found on the way.
 // Document 01, 'Recovery'.
+#![tactic(auto)]
+
 ghost use Rattle.std.specs.Prelude.{◌≡◌, false, not, ℕ, ◌+◌, ◌*◌, ◌≤◌, ◌<◌, length};
 ghost use Rattle.wrap32.specs.Arithmetic.{wrapping};
 ghost use Rattle.wrap32.specs.Edge.{eq_z, edge_detail, edge_back};
@@ -108,7 +110,7 @@ fn steps_row(work: &mut [i32], from: usize, to: usize, c: usize) -> u64
 }
 
 // The edge rows of a band, those below `first` and from `last` on, and E's mode.
-#[derive(Drop)]
+#[derive(Clone, Copy)]
 pub struct Edges {
     pub first: usize,
     pub last: usize,
@@ -157,7 +159,7 @@ fn band_back(
 
 // Where the rows of a level undone stand: those of its lows from `low` on, those of its highs from `high` on, one every `stride` numbers, each
 // of them c numbers of lo and c of hi.
-#[derive(Drop)]
+#[derive(Clone, Copy)]
 pub struct Undone {
     pub low: usize,
     pub high: usize,

@@ -1,4 +1,6 @@
 // Rows of a level, lifted down the columns into a ring of rows [lo | hi], and along themselves out of it.
+#![tactic(auto)]
+
 ghost use Rattle.std.specs.Prelude.{◌≡◌, ◌++◌, ◌+◌, ◌*◌, ◌≤◌, length};
 ghost use Rattle.lists.specs.Lists.{part, put_at, Clear};
 ghost use Rattle.lifting.specs.Lift.{low_row, high_row, end_row};
@@ -7,7 +9,7 @@ ghost use Rattle.ring.specs.Ring.{LowsIn, HighsIn, low_pair, high_pair, end_pair
 use lifting::{end_row, lift_low, lift_row, odd_row};
 
 // Where a row of the low bands ll and hl stands in the work slice, and one of the high bands lh and hh.
-#[derive(Drop)]
+#[derive(Clone, Copy)]
 pub struct Rows {
     pub ll: usize,
     pub hl: usize,

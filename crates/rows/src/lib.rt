@@ -1,4 +1,6 @@
 // One row of coefficients.
+#![tactic(auto)]
+
 ghost use Rattle.std.specs.Prelude.{◌≡◌, true, false, cond, List, ℕ, ◌+◌, ◌-◌, ◌*◌, ◌%◌, ◌^◌, ◌<◌, ◌≤◌, min, pos, neg_ℤ, nat_abs, eqb, length, set};
 ghost use Rattle.std.specs.Int.Signed.{lt_z};
 ghost use Rattle.format.specs.Coefficients.{value_of, sign_of, signs_of, width_after, width_next, group_of, zeros_of, zeros, stopped, row_of};
@@ -14,14 +16,14 @@ use words::{after, least, less, window};
 use wrap32::cut32;
 
 // A coefficient, and the reader after it.
-#[derive(Drop)]
+#[derive(Clone, Copy)]
 struct Signed {
     value: i32,
     reader: BitReader,
 }
 
 // Four coefficients, and the reader after them.
-#[derive(Drop)]
+#[derive(Clone, Copy)]
 struct SignedFour {
     a: i32,
     b: i32,
@@ -70,7 +72,7 @@ fn sign(z: i32, reader: BitReader, packet: &[u8]) -> Signed
 }
 
 // A group, and the width and the reader after it.
-#[derive(Drop)]
+#[derive(Clone, Copy)]
 struct GroupAnswer {
     a: i32,
     b: i32,
@@ -81,7 +83,7 @@ struct GroupAnswer {
 }
 
 // A run of zero groups, and the width and the reader after it.
-#[derive(Drop)]
+#[derive(Clone, Copy)]
 struct RunAnswer {
     groups: u64,
     width: u64,
@@ -114,7 +116,7 @@ fn signs_apart(q: Four, selector: u64, reader: BitReader, packet: &[u8]) -> Sign
 }
 
 // A value with its sign, and how many sign bits of a word of four are used after it.
-#[derive(Drop)]
+#[derive(Clone, Copy)]
 struct SignBit {
     value: i32,
     used: u64,
@@ -309,7 +311,7 @@ fn with_bit(m: u64, bit: u64) -> i32
 }
 
 // Four values with their signs, and the sign bits that they take.
-#[derive(Drop)]
+#[derive(Clone, Copy)]
 struct Quad {
     a: i32,
     b: i32,
@@ -399,7 +401,7 @@ fn scaled(q: Quad, selector: u64) -> Quad
 }
 
 // How far the decoding of a row has come: the next element, the width and the reader.
-#[derive(Drop)]
+#[derive(Clone, Copy)]
 struct Next {
     out: usize,
     width: u64,
@@ -438,7 +440,7 @@ fn over(place: u64, used: u64, most: u64, stop: u64) -> bool
 }
 
 // A zero run and the width after it, and the bits that they take.
-#[derive(Drop)]
+#[derive(Clone, Copy)]
 struct Run {
     groups: u64,
     width: u64,
@@ -476,7 +478,7 @@ fn run_word(word: u64, left: u64) -> Run
 }
 
 // The width after a group, 0 where it is below 0, and the bits of its values and its update.
-#[derive(Drop)]
+#[derive(Clone, Copy)]
 struct Step {
     level: i64,
     used: u64,
@@ -781,7 +783,7 @@ fn decode_row(reader: BitReader, packet: &[u8], dst: &mut [i32], selector: u64) 
 }
 
 // The bits that a row took from the allowance, and the reader after it.
-#[derive(Drop)]
+#[derive(Clone, Copy)]
 pub struct RowAnswer {
     pub bits: u64,
     pub reader: BitReader,

@@ -1,4 +1,6 @@
 // The stream header and the locator of tiles in a strip: document 01, 'Strip'.
+#![tactic(auto)]
+
 ghost use Rattle.std.specs.Prelude.{◌≡◌, ◌&&◌, ◌+◌, ◌^◌, ◌<◌, ◌≤◌, [], leb, eqb, length, get_or, drop};
 ghost use Rattle.format.specs.Strip.{magic, sides, marks, payload, unless0, word, entry_start, candidate, entry_tile, alone, listed, tiles_of};
 ghost use Rattle.strip.specs.Answers.{header_of, HeaderSays, stream, zero_stream, located_tile_of, answer_number, placed, located, located_of, table_tiles, stream_fields, tile_field};
@@ -15,7 +17,7 @@ const STEP: usize = 16;
 const REACH: usize = 4096;
 
 // A tile stream inside the strip.
-#[derive(Drop)]
+#[derive(Clone, Copy)]
 pub struct TileStream {
     pub offset: usize,
     pub length: usize,
@@ -83,28 +85,28 @@ impl TileStream {
 }
 
 // The coded size that a valid header tells.
-#[derive(Drop)]
+#[derive(Clone, Copy)]
 pub struct Header {
     pub width: usize,
     pub height: usize,
 }
 
 // What a stream starts with: a valid header, or refusal 2.
-#[derive(Drop)]
+#[derive(Clone, Copy)]
 pub enum StreamHeader {
     Valid(Header),
     Invalid,
 }
 
 // What one position, or one entry, gives.
-#[derive(Drop)]
+#[derive(Clone, Copy)]
 enum LocatedTile {
     Tile(TileStream),
     Nothing,
 }
 
 // What a strip gives: its tiles in order, the places after them all zero.
-#[derive(Drop)]
+#[derive(Clone, Copy)]
 pub struct Located {
     pub refusal: u32,
     pub count: usize,

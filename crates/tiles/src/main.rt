@@ -1,4 +1,6 @@
 // Lists the tiles of a strip; run on document 01's example.
+#![tactic(auto)]
+
 fn main() {
     listing::run();
 }

@@ -1,4 +1,6 @@
 // The row kernels of synthesis undone, and the passes over rows that undo a level in the work slice. Document 01, 'Recovery'.
+#![tactic(auto)]
+
 ghost use Rattle.std.specs.Prelude.{◌≡◌, ℕ, ◌+◌, ◌-◌, ◌*◌, ◌^◌, ◌≤◌, ◌<◌, min, length, set, true, false, List, ℤ, pos, ◌+ℤ◌};
 ghost use Rattle.std.specs.Int.{w32};
 ghost use Rattle.std.proofs.Common.{SFits};
@@ -15,7 +17,7 @@ use wrap32::{wrapping_add, wrapping_sub};
 
 // Rows of n numbers, the first at `start` and each `step` behind the one before it: h lows and m highs by turns. `leads` is true where the high
 // band has the first row.
-#[derive(Drop)]
+#[derive(Clone, Copy)]
 pub struct Columns {
     pub start: usize,
     pub step: usize,

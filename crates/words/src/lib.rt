@@ -1,4 +1,6 @@
 // Words and bit fields of a byte slice; the lesser and the difference of two numbers, and the first that is not 0.
+#![tactic(auto)]
+
 ghost use Rattle.std.specs.Prelude.{◌≡◌, ◌+◌, ◌-◌, ◌/◌, ◌^◌, ◌<◌, ◌≤◌, min, length, get_or};
 ghost use Rattle.format.specs.Bits.{bits_at, little32};
 ghost use Rattle.format.specs.Refusals.{◌▷◌};

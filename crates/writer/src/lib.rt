@@ -1,4 +1,6 @@
 // A stream from planes: every refusal of the call first, then the coefficients, their lengths, the stream. Document 02, Job 2.
+#![tactic(auto)]
+
 ghost use Rattle.std.specs.Prelude.{◌≡◌, not, ◌||◌, ◌%◌, eqb, ltb, length};
 ghost use Rattle.format.specs.Coefficients.{Coefs, zeros};
 ghost use Rattle.format.specs.Sizes.{work_length};
@@ -17,7 +19,7 @@ use rows::clear;
 
 // A refusal with length 0, or 0 with the length of the stream.
 #[repr(C)]
-#[derive(Drop)]
+#[derive(Clone, Copy)]
 pub struct Written {
     pub refusal: u64,
     pub length: u64,
