@@ -1,0 +1,16 @@
+-- `fields::plane_rows` meets its contract. Assumes nothing.
+use borrow.Author.Rules.{rules}
+use mathlib.Core.Path.{sym, ◌∙◌}
+use native.Mathlib.Omega.{arith}
+use Rattle.fields.proofs.SizeLaws.{guarded-some}
+use Rattle.fields.proofs.plane_rows.Goals as goal
+
+pub rows_of-requires : goal.rows_of-requires
+rows_of-requires c =
+    let s = c in
+    ((λ e. omega (arith, s.stripes.ensures.0, guarded-some s.args.height (sym c.guarded.ensures ∙ e))), omega (arith, s.stripes.ensures.1))
+
+pub returns : goal.returns
+returns c =
+    let g = c in
+    (rw (← g.guarded.ensures, ← g.stripes.ensures.0) c.rows_of.ensures.0, omega (arith, g.stripes.ensures.1, c.rows_of.ensures.1))
