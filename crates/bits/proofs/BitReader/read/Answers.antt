@@ -13,8 +13,8 @@ use lib.Pow.{shl_exact, shl_lt}
 use Rattle.format.specs.Bits.{bits_at}
 use Rattle.format.specs.Reader.{Reader, read_of}
 use Rattle.format.proofs.BitLaws.{prefix, bits-lt, le-or-lt}
-use Rattle.bits.proofs.BitReader.read.Statement.{statement}
-use Rattle.bits.proofs.BitReader.read.Tie as tie
+use Rattle.bits.proofs.BitReader.read.Goals.{After-least-k, After-top}
+use Rattle.bits.proofs.BitReader.read.Goals as goal
 
 -- what is left of n bits, and zeros for the others
 parted : (s : List ℕ) (r : Reader) (n k : ℕ) → k ≡ min n r.remaining
@@ -40,34 +40,38 @@ parted s r n k e = ⊎_elim all some (le-or-lt n r.remaining)
         let none : r.remaining - r.remaining ≡ 0 = omega arith in
         rw (lt-leb n r.remaining h, same, none) refl
 
-returns : tie.Need-returns
+pub returns : goal.returns
 returns c =
-    let t = c.before.before.before in
-    let l = t.before.before in
-    let s = l.before.before in
+    let t = (goal.at.returns c).After-top in
+    let l = (goal.at.After-top t).After-least-k in
+    let s = l in
     let a = s.args in
-    let k = l.least.result in
+    let k = l.least-k.result in
     let p = a.packet.now in
     let bits = bits-lt p a.self.place k in
-    let few : k ≤ a.n = l.least.ensures.1.0 in
-    let v = t.top.ensures ∙ prefix p a.self.place a.self.cache k s.requires.0.bits (omega arith) in
+    let few : k ≤ a.n = l.least-k.ensures.upper_bound.0 in
+    let v = t.top.ensures ∙ prefix p a.self.place a.self.cache k s.requires.ready.bits (omega arith) in
     let e = ap (λ (x : ℕ). x * 2 ^ (a.n - k) % 2 ^ 64) v ∙ shl_exact k (a.n - k) 64 bits (omega arith) in
     let whole : k + (a.n - k) ≡ a.n = omega (arith, few) in
-    let after = c.at.ensures.0 ∙ ap (λ (x : ℕ). record { place = a.self.place + k; remaining = a.self.remaining - k; status = x }) t.before.status-past.ensures in (
-      (λ j. record { value = e j; reader = after j }) ∙ sym (parted p _ a.n k l.least.ensures.0),
-      record { ready = c.at.ensures.1; bound = rw e (rw whole at (shl_lt k (a.n - k) bits)) },
-    )
+    let after = c.at.ensures.result_value ∙ ap (λ (x : ℕ). record { place = a.self.place + k; remaining = a.self.remaining - k; status = x }) t.status_past-status.ensures in record {
+      result_value = (λ j. record { value = e j; reader = after j }) ∙ sym (parted p _ a.n k l.least-k.ensures.value);
+      ready_below = record { ready = c.at.ensures.ready; bound = rw e (rw whole at (shl_lt k (a.n - k) bits)) };
+    }
 
-pub read_spec : {M : Type 1} → statement M
-read_spec =
-    tie.close
-    (tie.spec
-    (λ c κs. search rules)
-    (λ c κs. search rules)
-    (λ c κs. omega (arith, c.before.least.ensures.1.0, c.before.before.before.requires.1))
-    (λ c. omega (arith, c.before.before.least.ensures.1.0))
-    (λ c. omega (arith, c.before.before.before.before.requires.1))
-    (λ c. omega (arith, c.before.before.before.least.ensures.1.1, c.before.before.before.before.before.requires.0.room))
-    (λ c. omega (arith, c.before.before.before.before.least.ensures.1.1))
-    (λ c κs. let l = c.before.before.before.before in (l.before.before.requires.0.size, omega (arith, l.least.ensures.1.1, l.before.before.requires.0.room)))
-    returns)
+pub top-requires : goal.top-requires
+top-requires c = omega (arith, c.least-k.ensures.upper_bound.0, c.requires.n_bound)
+
+pub overflow_sub-result : goal.overflow_sub-result
+overflow_sub-result c = omega (arith, c.least-k.ensures.upper_bound.0)
+
+pub overflow_shl-result : goal.overflow_shl-result
+overflow_shl-result c = omega (arith, c.requires.n_bound)
+
+pub overflow_add-self : goal.overflow_add-self
+overflow_add-self c = omega (arith, c.least-k.ensures.upper_bound.1, c.requires.ready.room)
+
+pub overflow_sub-self : goal.overflow_sub-self
+overflow_sub-self c = omega (arith, c.least-k.ensures.upper_bound.1)
+
+pub at-requires : goal.at-requires
+at-requires c = let l = c in (l.requires.ready.size, omega (arith, l.least-k.ensures.upper_bound.1, l.requires.ready.room))

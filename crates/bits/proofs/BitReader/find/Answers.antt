@@ -1,0 +1,32 @@
+-- `BitReader::find` meets its contract. Assumes nothing.
+use borrow.Author.Rules.{rules}
+use borrow.Author.Tests.{lt-ltb, le-ltb, le-leb, lt-leb}
+use Rattle.format.specs.Reader.{find_of}
+use Rattle.bits.proofs.BitReader.find.Goals as goal
+
+pub returns-then-z-limit : goal.returns-then-z-limit
+unfolding find_of
+returns-then-z-limit c =
+    let limit = c.least-limit.ensures.value in
+    record {
+      result_value = simp (← limit, ← c.zeros_ahead-z.ensures.0, lt-ltb _ _ c.if-z-limit.true, c.skip.ensures.result_value);
+      ready_below = search rules;
+    }
+
+pub returns-then-k-left : goal.returns-then-k-left
+unfolding find_of
+returns-then-k-left c =
+    let limit = c.least-limit.ensures.value in
+    record {
+      result_value = simp (← limit, ← c.zeros_ahead-z.ensures.0, le-ltb _ _ c.if-z-limit.false, le-leb _ _ c.if-k-left.true, c.skip-then-k-left.ensures.result_value);
+      ready_below = search rules;
+    }
+
+pub returns : goal.returns
+unfolding find_of
+returns c =
+    let limit = c.least-limit.ensures.value in
+    record {
+      result_value = simp (← limit, ← c.zeros_ahead-z.ensures.0, le-ltb _ _ c.if-z-limit.false, lt-leb _ _ c.if-k-left.false, c.spend.ensures.result_value);
+      ready_below = search rules;
+    }

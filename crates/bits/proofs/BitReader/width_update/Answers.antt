@@ -1,0 +1,28 @@
+-- `BitReader::width_update` meets its contract. Assumes nothing.
+use borrow.Author.Rules.{rules}
+use mathlib.Core.Path.{ap, sym, ◌∙◌}
+use Prim.Native.Nat.{◌≤◌}
+use native.Mathlib.Omega.{arith}
+use lib.Dec.{lit≤}
+use Rattle.format.specs.Reader.{Reader, skipped}
+use Rattle.format.proofs.BitLaws.{prefix-of}
+use Rattle.bits.specs.View.{as_reader, change_of}
+use Rattle.bits.proofs.WordUpdate.{change-update}
+use Rattle.bits.proofs.BitReader.width_update.Goals as goal
+
+pub returns : goal.returns
+returns c =
+    let b = c in
+    let s = b.args.packet.now in
+    let r = b.args.self in
+    let u = c.changed-u in
+    let l = c.least.ensures.upper_bound in
+    let short : u.result.used ≤ 57 = omega (arith, c.if-least-u.false, l) in
+    let enough : u.result.used ≤ r.remaining = omega (arith, c.if-least-u.false, l) in
+    let room : (change_of r.cache b.args.width).used ≤ u.result.used = rw u.ensures.0 (omega arith) in
+    let whole = change-update s (as_reader r) b.args.width r.cache u.result.used (omega arith) (prefix-of s r.place r.cache u.result.used 57 b.requires.ready.bits short (lit≤ tt)) in record {
+      result_value = ap (λ (t : Reader). record { value = u.result.width; reader = t }) c.skip.ensures.result_value
+          ∙ (λ i. record { value = (u.ensures.0 i).width; reader = skipped (as_reader r) (u.ensures.0 i).used })
+          ∙ sym (whole (omega arith) enough c.if-self-ne0.false room);
+      ready_2 = c.skip.ensures.ready_2;
+    }
