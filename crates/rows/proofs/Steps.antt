@@ -116,12 +116,12 @@ pub record Point : Type 0 where
   pub d : List ℤ
   pub place : ℕ
   pub word : ℕ
-  pub level : ℕ
+  pub level : ℤ
   pub i : ℕ
 
--- the width there as a signed number
+-- the width there, a signed number
 abbrev signed_at : Point → ℤ
-signed_at p = to_z w64 p.level
+signed_at p = p.level
 
 -- the width of its group
 abbrev pub width_at : Point → ℕ
@@ -143,7 +143,7 @@ pub state-first : (k : Call) → Asked k → k.out < length k.slice → k.width 
     → (last end room word : ℕ) → last ≡ length k.slice - 4 → end ≡ min (length k.packet) (2 ^ 40) * 8 - 127 → room ≡ stop_of k - 4
     → Loaded k.packet k.reader.place word
     → State (length k.slice) last end (stop_of k) room
-    (record { call = k; d = k.slice; place = k.reader.place; word = word; level = k.width; i = k.out })
+    (record { call = k; d = k.slice; place = k.reader.place; word = word; level = to_z w64 k.width; i = k.out })
 state-first k asked h most clean last end room word el ee er loaded =
     let first : Turn k k.slice k.reader.place k.width k.out =
     record {
@@ -230,7 +230,7 @@ turn_last {k} {d} {place} {word} {w} {i} asked turn loaded n e =
 
 module _ {n last end stop room : ℕ} {p : Point} (t : State n last end stop room p) where
   -- the next turn
-  pub state-again : {d : List ℤ} {place w i : ℕ} (word level : ℕ) → w ≡ level_of (to_z w64 level) → Turn p.call d place w i
+  pub state-again : {d : List ℤ} {place w i : ℕ} (word : ℕ) (level : ℤ) → w ≡ level_of level → Turn p.call d place w i
       → Loaded p.call.packet place word
       → State n last end stop room (record { call = p.call; d = d; place = place; word = word; level = level; i = i })
   state-again word level e turn loaded =

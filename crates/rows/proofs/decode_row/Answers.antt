@@ -1,0 +1,108 @@
+-- `decode_row` meets its contract. Assumes nothing.
+use borrow.Author.Rules.{rules}
+use mathlib.Core.Path.{refl}
+use Prim.Native.Nat.{◌-◌}
+use native.Mathlib.Omega.{arith}
+use lib.Count.{count_leading_zeros}
+use lib.ListN.{length}
+use Rattle.lists.specs.Lists.{tab}
+use Rattle.bits.specs.View.{as_reader}
+use Rattle.rows.specs.Word.{move_of, length_of}
+use Rattle.rows.specs.Course.{state_of}
+use Rattle.rows.proofs.Filled.{clean_all}
+use Rattle.rows.proofs.Row.{Decoding, decoding-first, decoding-on, decoding-halted, decoding-done}
+use Rattle.rows.proofs.decode_row.Goals.{After-quick-far, At-loop-out}
+use Rattle.rows.proofs.decode_row.Goals as goal
+
+pub loop-out-init : goal.loop-out-init
+loop-out-init c =
+    let a = c.args in
+    let k = c.clear in
+    let first = c.width_opening-first in
+    decoding-first a.packet.now a.selector (length a.dst.now) k.new.dst first.result.reader first.result.value k.auto.dst first.ensures.ready
+    (clean_all k.new.dst (length a.dst.now) k.ensures)
+
+pub returns-then-halts : goal.returns-then-halts
+returns-then-halts c =
+    let b = c in
+    let told = decoding-halted b.loop-out.invariant (as_reader b.args.reader) b.width_opening-first.ensures.result_value c.loop-out-test.true
+    (c.halts.ensures.0 c.if-halts.true) c.stop.result c.stop.ensures.result_value (c.stop.ensures.by_index _) in
+    record { result_value = told.0; dst_after = told.1.0; ready_2 = told.1.1 }
+
+pub quick-far-requires : goal.quick-far-requires
+unfolding tab move_of length_of count_leading_zeros
+quick-far-requires c =
+    let l = c.loop-out.invariant in
+    let s = c.requires.selector_bound in
+    let goes = c.halts.ensures.1 c.if-halts.false in
+    let more = c.loop-out-test.true in
+    record {
+      ready = l.ready;
+      status_value = (goes.0, omega (arith, l.same, s), omega (arith, l.same, more), goes.1, s.0);
+      clean = (l.clean, (refl, refl));
+    }
+
+-- the row after the quick part of a turn
+quicked : (c : After-quick-far)
+    → let b = (goal.at.After-quick-far c).At-loop-out in
+    let a = b.args in
+    let w = b.width_opening-first.result in
+    let q = c.quick-far in
+    Decoding a.packet.now a.selector (length a.dst.now) (state_of w.value w.reader) b.clear.new.dst q.new.dst
+    q.result.reader q.result.width q.result.out
+quicked c =
+    let b = c in
+    let q = c.quick-far in
+    decoding-on b.loop-out.invariant q.ensures.onward (omega (arith, q.ensures.done.inside, b.loop-out.invariant.same)) q.ensures.done.ready
+
+pub returns-then-halts-2 : goal.returns-then-halts-2
+returns-then-halts-2 c =
+    let b = c in
+    let told = decoding-halted (quicked (goal.at.returns-then-halts-2 c).After-quick-far) (as_reader b.args.reader) b.width_opening-first.ensures.result_value c.if-out-n.true
+    (c.halts-then-out-n.ensures.0 c.if-halts-2.true) c.stop-then-halts-2.result c.stop-then-halts-2.ensures.result_value (c.stop-then-halts-2.ensures.by_index _) in
+    record { result_value = told.0; dst_after = told.1.0; ready_2 = told.1.1 }
+
+pub plain-one-requires : goal.plain-one-requires
+plain-one-requires c =
+    let l = quicked (goal.at.plain-one-requires c).After-quick-far in
+    let s = c.requires.selector_bound in
+    let goes = c.halts-then-out-n.ensures.1 c.if-halts-2.false in
+    let more = c.if-out-n.true in
+    record {
+      ready = l.ready;
+      status_value = (goes.0, omega (arith, l.same, s), omega (arith, l.same, more), s.0, goes.1);
+      clean = l.clean;
+    }
+
+pub loop-out-preserved-then-out-n : goal.loop-out-preserved-then-out-n
+loop-out-preserved-then-out-n c =
+    let p = c.plain-one in
+    let l = quicked (goal.at.loop-out-preserved-then-out-n c).After-quick-far in
+    decoding-on l p.ensures.onward (omega (arith, p.ensures.out_lt_out.1, l.same)) p.ensures.out_lt_out.2
+
+pub returns : goal.returns
+returns c =
+    let b = c in
+    let told = decoding-done b.loop-out.invariant (as_reader b.args.reader) b.width_opening-first.ensures.result_value (omega arith) in
+    record { result_value = told.0; dst_after = told.1.0; ready_2 = told.1.1 }
+
+pub width_opening-first-requires : goal.width_opening-first-requires
+width_opening-first-requires c = c.requires.ready
+
+pub shape_of-dst-then-halts : goal.shape_of-dst-then-halts
+shape_of-dst-then-halts c = c.loop-out.invariant.same
+
+pub shape_of-dst-then-halts-2 : goal.shape_of-dst-then-halts-2
+shape_of-dst-then-halts-2 c = (quicked (goal.at.shape_of-dst-then-halts-2 c).After-quick-far).same
+
+pub loop-out-smaller-then-out-n : goal.loop-out-smaller-then-out-n
+loop-out-smaller-then-out-n c = let b = c in omega (arith, c.plain-one.ensures.out_lt_out.0, b.quick-far.ensures.done.forward, b.loop-out-test.true)
+
+pub loop-out-smaller : goal.loop-out-smaller
+loop-out-smaller c = omega (arith, c.if-out-n.false, c.loop-out-test.true)
+
+pub loop-out-preserved : goal.loop-out-preserved
+loop-out-preserved c = quicked (goal.at.loop-out-preserved c).After-quick-far
+
+pub shape_of-dst : goal.shape_of-dst
+shape_of-dst c = c.loop-out.invariant.same

@@ -1,0 +1,34 @@
+-- `group` meets its contract. Assumes nothing.
+use borrow.Author.Rules.{rules}
+use native.Mathlib.Nat.{lt_of_lt_of_le}
+use lib.Pow.{pow_mono}
+use mir.Syntax.{w32}
+use mir.ValLaws.{to_z-of_z}
+use Rattle.format.specs.Coefficients.{group_of}
+use Rattle.rows.proofs.group.Goals as goal
+
+pub signs-z-requires : goal.signs-z-requires
+signs-z-requires c =
+    let q = c.read4-q.ensures.ready_below_four in
+    let short = pow_mono {i = c.args.width} {j = 19} c.requires.width_bound.0 in record {
+      ready = c.width_next-n.ensures.ready_2;
+      selector_bound = c.requires.width_bound.1;
+      a_bound = (lt_of_lt_of_le q.a short, lt_of_lt_of_le q.b short, lt_of_lt_of_le q.c short, lt_of_lt_of_le q.d short);
+    }
+
+pub returns : goal.returns
+unfolding group_of
+returns c =
+    let z = c.signs-z in
+    let told = c.struct_told-1.given in record {
+      result_value = simp (
+        to_z-of_z w32 z.result.a (record { sfits = told.0.1 }),
+        to_z-of_z w32 z.result.b (record { sfits = told.1.0.1 }),
+        to_z-of_z w32 z.result.c (record { sfits = told.1.1.0.1 }),
+        to_z-of_z w32 z.result.d (record { sfits = told.1.1.1.0.1 }),
+        ← c.read4-q.ensures.result_value,
+        ← c.width_next-n.ensures.result_value,
+        ← z.ensures.result_value,
+      );
+      ready_2 = z.ensures.ready_2;
+    }

@@ -1,0 +1,41 @@
+-- `signs_apart` meets its contract. Assumes nothing.
+use borrow.Author.Rules.{rules}
+use mir.Syntax.{w32}
+use mir.Val.{SFits}
+use mir.ValLaws.{to_z-of_z}
+use mathlib.Core.Path.{ap, ◌∙◌}
+use lib.IntN.{ℤ}
+use Rattle.bits.specs.View.{as_reader}
+use Rattle.format.specs.Coefficients.{sign_of, signs_of}
+use Rattle.rows.proofs.signs_apart.Goals.{After-sign-b, After-sign-c, After-sign-d}
+use Rattle.rows.proofs.signs_apart.Goals as goal
+
+pub returns : goal.returns
+unfolding signs_of
+returns c =
+    let d = (goal.at.returns c).After-sign-d in
+    let c3 = (goal.at.After-sign-d d).After-sign-c in
+    let b = (goal.at.After-sign-c c3).After-sign-b in
+    let a = b in
+    let g = a.args in
+    let s = g.packet.now in
+    let va : SFits w32 a.value.result = search rules in
+    let vb : SFits w32 b.value-2.result = search rules in
+    let vc : SFits w32 c3.value-3.result = search rules in
+    let vd : SFits w32 d.value-4.result = search rules in
+    let A = a.sign-a.ensures.result_value ∙ ap (λ (z : ℤ). sign_of s z (as_reader g.reader)) (to_z-of_z w32 a.value.result va ∙ a.value.ensures) in
+    let B = b.sign-b.ensures.result_value ∙ ap (λ (z : ℤ). sign_of s z (as_reader a.sign-a.result.reader)) (to_z-of_z w32 b.value-2.result vb ∙ b.value-2.ensures) in
+    let C = c3.sign-c.ensures.result_value ∙ ap (λ (z : ℤ). sign_of s z (as_reader b.sign-b.result.reader)) (to_z-of_z w32 c3.value-3.result vc ∙ c3.value-3.ensures) in
+    let D = d.sign-d.ensures.result_value ∙ ap (λ (z : ℤ). sign_of s z (as_reader c3.sign-c.result.reader)) (to_z-of_z w32 d.value-4.result vd ∙ d.value-4.ensures) in record {
+      result_value = simp (
+        to_z-of_z w32 a.sign-a.result.value (record { sfits = c.struct_told-1.given.0.1 }),
+        to_z-of_z w32 b.sign-b.result.value (record { sfits = c.struct_told-2-1.given.0.1 }),
+        to_z-of_z w32 c3.sign-c.result.value (record { sfits = c.struct_told-3-1.given.0.1 }),
+        to_z-of_z w32 d.sign-d.result.value (record { sfits = c.struct_told-4-1.given.0.1 }),
+        ← A,
+        ← B,
+        ← C,
+        ← D,
+      );
+      ready_2 = d.sign-d.ensures.ready;
+    }

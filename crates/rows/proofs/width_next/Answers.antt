@@ -1,0 +1,16 @@
+-- `width_next` meets its contract. Assumes nothing.
+use borrow.Author.Rules.{rules}
+use borrow.Author.Tests.{le-leb, lt-leb}
+use Rattle.format.specs.Coefficients.{width_next}
+use Rattle.rows.proofs.width_next.Goals as goal
+
+pub returns-then-groups-le1 : goal.returns-then-groups-le1
+unfolding width_next
+returns-then-groups-le1 c = record { result_value = simp (le-leb _ _ c.if-groups-le1.true); ready_2 = c.requires.ready }
+
+pub returns : goal.returns
+unfolding width_next
+returns c = record {
+      result_value = simp (lt-leb _ _ c.if-groups-le1.false, c.width_update.ensures.result_value);
+      ready_2 = c.width_update.ensures.ready_2;
+    }
