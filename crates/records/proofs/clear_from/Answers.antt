@@ -8,15 +8,11 @@ use lib.IntN.{ℤ}
 use lib.ListN.{length, take, drop, length-take, length-drop}
 use Rattle.format.specs.Coefficients.{zeros}
 use Rattle.records.proofs.Walk.{put_rest}
-use Rattle.records.proofs.clear_from.Statement.{statement}
-use Rattle.records.proofs.clear_from.Tie as tie
+use Rattle.records.proofs.clear_from.Goals as goal
 
-returns : tie.Need-returns
+pub returns : goal.returns
 returns c =
-    let a = c.before.before.before.args in
+    let a = c.args in
     let b = a.band.now in
     let size : length (take (length b - a.at) (drop a.at b)) ≡ length b - a.at = simp (length-take, length-drop) (omega arith) in
-    put_rest b _ a.at ∙ ap (λ (t : List ℤ). take a.at b ++ t) (c.before.clear.ensures ∙ ap zeros size)
-
-pub clear-from-spec : {M : Type 1} → statement M
-clear-from-spec = tie.close (tie.spec (λ c. search rules) (λ c. search rules) (λ c. search rules) (λ c. search rules) (λ c κs. search rules) (λ c. search rules) returns)
+    put_rest b _ a.at ∙ ap (λ (t : List ℤ). take a.at b ++ t) (c.clear.ensures ∙ ap zeros size)

@@ -1,0 +1,8 @@
+-- `records::Counts::one` meets its contract. Assumes nothing.
+use borrow.Author.Rules.{rules}
+use Rattle.records.proofs.Counts.one.Goals as goal
+
+pub returns : goal.returns
+returns c =
+    let a = c in
+    λ j. record { broken = a.goes_by.ensures.0 j; spent = c.goes_by-2.ensures.0 j; bits = a.args.bits }

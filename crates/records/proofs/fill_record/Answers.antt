@@ -1,0 +1,44 @@
+-- `fill_record` meets its contract. Assumes nothing.
+use borrow.Author.Rules.{rules}
+use borrow.Author.Tests.{lt-ltb, le-ltb}
+use mathlib.Core.Path.{ap, ◌∙◌}
+use native.Mathlib.Omega.{arith}
+use Rattle.format.specs.Packets.{blocks}
+use Rattle.format.specs.Coefficients.{zeros}
+use Rattle.format.proofs.BitLaws.{bits-lt}
+use Rattle.records.specs.Record.{values_from}
+use Rattle.records.proofs.fill_record.Goals.{After-band-2-1, Else-i-blocks}
+use Rattle.records.proofs.fill_record.Goals as goal
+
+pub decode_record-requires : goal.decode_record-requires
+decode_record-requires c =
+    let s = c in
+    let t = c in
+    record {
+      in_bounds = (s.requires.in_bounds.0, omega (arith, t.if-i-blocks.true, t.blocks-2.ensures.0, bits-lt s.args.packet.now 56 16), s.requires.in_bounds.1);
+      m_bound = s.requires.m_bound;
+    }
+
+pub returns-then-i-blocks : goal.returns-then-i-blocks
+unfolding values_from
+returns-then-i-blocks c =
+    let s = c in
+    let t = c in
+    let e = c.decode_record.ensures in
+    let has = lt-ltb s.args.i (blocks s.args.packet.now) (omega (arith, t.if-i-blocks.true, t.blocks-2.ensures.0)) in
+    record {
+      value = simp has e.value;
+      band_after = simp has e.band_after;
+    }
+
+pub returns : goal.returns
+unfolding values_from
+returns c =
+    let b = (goal.at.returns c).After-band-2-1 in
+    let t = (goal.at.After-band-2-1 b).Else-i-blocks in
+    let s = t in
+    let missing = le-ltb s.args.i (blocks s.args.packet.now) (omega (arith, t.if-i-blocks.false, t.blocks-2.ensures.0)) in
+    record {
+      value = simp missing c.none.ensures;
+      band_after = simp missing (b.clear.ensures ∙ ap zeros s.requires.m_bound.2);
+    }
