@@ -1,5 +1,5 @@
 -- A zero run, or a group of four values, out of one word that holds all its bits: what is read from the word.
-use Rattle.std.specs.Prelude.{◌≡◌, List, cond, ℕ, ◌+◌, ◌-◌, ◌*◌, ◌/◌, ◌%◌, ◌^◌, ◌≤◌, ◌<◌, min, ℤ, pos, neg_ℤ, nat_abs, set, ltb, eqb}
+use Rattle.std.specs.Prelude.{◌≡◌, List, cond, ℕ, ◌+◌, ◌-◌, ◌*◌, ◌/◌, ◌%◌, ◌^◌, ◌≤◌, ◌<◌, ℤ, pos, neg_ℤ, nat_abs, set, ltb, eqb}
 use Rattle.std.specs.Int.Signed.{lt_z, le_z}
 use Rattle.std.specs.Int.Count.{count_leading_zeros}
 use Rattle.format.specs.Bits.{bits_at}

@@ -1,5 +1,4 @@
 -- `bit_length` meets its contract. Assumes nothing.
-use borrow.Author.Rules.{rules}
 use native.Mathlib.Omega.{arith}
 use lib.Count.{leading_le}
 use Rattle.bits.proofs.bit_length.Goals as goal

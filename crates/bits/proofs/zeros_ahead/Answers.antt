@@ -1,6 +1,6 @@
 -- `zeros_ahead` meets its contract. The loop's invariant: every bit that was passed is 0, and the word holds the bits after them. Assumes nothing.
-use mathlib.Core.Path.{◌≡◌, refl, sym, ap, ◌∙◌}
-use Prim.Native.Nat.{◌-◌, ℕ, ◌+◌, ◌/◌, ◌^◌, ◌<◌}
+use mathlib.Core.Path.{refl, sym, ap, ◌∙◌}
+use Prim.Native.Nat.{◌-◌, ℕ, ◌+◌}
 use native.Mathlib.Omega.{arith}
 use native.Mathlib.Nat.{add-zero}
 use lib.Count.{count_leading_zeros, leading_le}

@@ -1,11 +1,7 @@
 -- `zeros_ahead` meets its contract. The loop's invariant: every bit that was passed is 0, and the word holds the bits after them. Assumes nothing.
-use mathlib.Core.Path.{◌≡◌, refl, sym, ap, ◌∙◌}
-use Prim.Native.Nat.{◌-◌, ℕ, ◌+◌, ◌/◌, ◌^◌, ◌<◌}
-use native.Mathlib.Omega.{arith}
-use native.Mathlib.Nat.{add-zero}
-use lib.Count.{count_leading_zeros, leading_le}
+use mathlib.Core.Path.{◌≡◌}
+use Prim.Native.Nat.{◌-◌, ◌+◌, ◌/◌, ◌^◌, ◌<◌}
 use Rattle.format.specs.Bits.{bits_at}
-use Rattle.format.proofs.BitLaws.{bits_none, zero-prefix, zeros-all, zeros-found, zeros-after, zeros-join, lead-zeros, lead-none}
 use Rattle.bits.proofs.zeros_ahead.Given as goal
 
 abbrev pub invariant-loop-passed : goal.invariant-loop-passed

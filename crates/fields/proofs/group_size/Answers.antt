@@ -1,6 +1,5 @@
 -- `fields::group_size` meets its contract. Assumes nothing.
 use native.Mathlib.Omega.{arith}
-use borrow.Author.Rules.{rules}
 use Rattle.format.specs.Strip.{group_size}
 use Rattle.fields.proofs.group_size.Goals as goal
 

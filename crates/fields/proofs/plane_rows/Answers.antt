@@ -1,5 +1,4 @@
 -- `fields::plane_rows` meets its contract. Assumes nothing.
-use borrow.Author.Rules.{rules}
 use mathlib.Core.Path.{sym, ◌∙◌}
 use native.Mathlib.Omega.{arith}
 use Rattle.fields.proofs.SizeLaws.{guarded-some}

@@ -1,5 +1,4 @@
 -- `fields::record_length` meets its contract. Assumes nothing.
-use borrow.Author.Rules.{rules}
 use mathlib.Core.Path.{ap, ◌∙◌}
 use Prim.Native.Nat.{ℕ}
 use Rattle.format.specs.Bits.{bits_at}

@@ -1,6 +1,5 @@
 -- `fields::rows_of` meets its contract. Assumes nothing.
 use native.Mathlib.Omega.{arith}
-use borrow.Author.Rules.{rules}
 use Rattle.fields.proofs.rows_of.Goals as goal
 
 pub overflow_sub-result : goal.overflow_sub-result

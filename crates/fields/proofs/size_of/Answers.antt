@@ -1,6 +1,5 @@
 -- `fields::size_of` meets its contract. Assumes nothing.
 use native.Mathlib.Omega.{arith}
-use borrow.Author.Rules.{rules}
 use Rattle.format.specs.Packets.{size_of}
 use Rattle.fields.proofs.size_of.Goals as goal
 

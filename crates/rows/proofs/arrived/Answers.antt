@@ -1,5 +1,4 @@
 -- `arrived` meets its contract. Assumes nothing.
-use borrow.Author.Rules.{rules}
 use mathlib.Core.Path.{refl}
 use Rattle.rows.proofs.arrived.Goals as goal
 

@@ -1,12 +1,12 @@
 -- `clear` meets its contract. Assumes nothing.
 use mathlib.Core.Path.{◌≡◌, refl, ap, ◌∙◌}
 use mathlib.Core.List.{List, ◌∷◌}
-use Prim.Native.Nat.{ℕ, zero, suc, ◌-◌, ◌≤◌}
+use Prim.Native.Nat.{ℕ, zero, suc}
 use native.Mathlib.Omega.{arith}
 use lib.IntN.{ℤ, pos}
 use lib.ListN.{length, length-set}
 use Rattle.format.specs.Coefficients.{zeros}
-use Rattle.lists.specs.Lists.{tab, fill}
+use Rattle.lists.specs.Lists.{tab}
 use Rattle.lists.proofs.Tab.{fill_start, fill_step, fill_done}
 use Rattle.rows.proofs.clear.Invariants.{none}
 use Rattle.rows.proofs.clear.Goals as goal

@@ -1,13 +1,9 @@
 -- `clear` meets its contract. Assumes nothing.
-use mathlib.Core.Path.{◌≡◌, refl, ap, ◌∙◌}
-use mathlib.Core.List.{List, ◌∷◌}
-use Prim.Native.Nat.{ℕ, zero, suc, ◌-◌, ◌≤◌}
-use native.Mathlib.Omega.{arith}
+use mathlib.Core.Path.{◌≡◌}
+use Prim.Native.Nat.{ℕ, ◌-◌, ◌≤◌}
 use lib.IntN.{ℤ, pos}
-use lib.ListN.{length, length-set}
-use Rattle.format.specs.Coefficients.{zeros}
-use Rattle.lists.specs.Lists.{tab, fill}
-use Rattle.lists.proofs.Tab.{fill_start, fill_step, fill_done}
+use lib.ListN.{length}
+use Rattle.lists.specs.Lists.{fill}
 use Rattle.rows.proofs.clear.Given as goal
 
 -- the zero of each place

@@ -1,7 +1,5 @@
 -- `decode_row` meets its contract. Assumes nothing.
-use borrow.Author.Rules.{rules}
 use mathlib.Core.Path.{refl}
-use Prim.Native.Nat.{◌-◌}
 use native.Mathlib.Omega.{arith}
 use lib.Count.{count_leading_zeros}
 use lib.ListN.{length}

@@ -1,5 +1,4 @@
 -- `ends` meets its contract. Assumes nothing.
-use borrow.Author.Rules.{rules}
 use borrow.Author.Tests.{leb-true, leb-false}
 use native.Mathlib.Omega.{arith}
 use mathlib.Core.Bool.{true≢false}

@@ -2,8 +2,7 @@
 use borrow.Author.Rules.{rules}
 use native.Mathlib.Omega.{arith}
 use mathlib.Core.Path.{refl, sym}
-use Prim.Native.Nat.{◌+◌, ◌-◌, ◌*◌}
-use lib.ListN.{length}
+use Prim.Native.Nat.{◌+◌, ◌*◌}
 use mir.Syntax.{w64}
 use mir.Val.{to_z}
 use Rattle.rows.specs.Word.{level_of}
@@ -92,7 +91,7 @@ pub shape_of-dst-then-over : goal.shape_of-dst-then-over
 shape_of-dst-then-over c = c.loop-h.invariant.turn.on.same
 
 pub returns-then-over : goal.returns-then-over
-returns-then-over c = 
+returns-then-over c =
     let told = steps.state-last c.loop-h.invariant c.arrived.result 0 (level-none _ c.if-level-le0.true) c.arrived.ensures in
     record { onward = told.0; done = told.1 }
 
@@ -123,9 +122,9 @@ overflow_cast-w c = steps.inside-some (inside (goal.at.overflow_cast-w c).In-loo
 
 pub step_word-u-requires : goal.step_word-u-requires
 step_word-u-requires c = record {
-      le_width = steps.inside-short (inside (goal.at.step_word-u-requires c).In-loop-h) c.if-level-le0.false;
-      tables = c.requires.clean.1;
-    }
+  le_width = steps.inside-short (inside (goal.at.step_word-u-requires c).In-loop-h) c.if-level-le0.false;
+  tables = c.requires.clean.1;
+}
 
 pub over-requires-else-level-le0 : goal.over-requires-else-level-le0
 over-requires-else-level-le0 c = omega (arith, inside (goal.at.over-requires-else-level-le0 c).In-loop-h, c.step_word-u.ensures.used_bound)
@@ -137,7 +136,7 @@ pub shape_of-dst-then-over-2 : goal.shape_of-dst-then-over-2
 shape_of-dst-then-over-2 c = c.loop-h.invariant.turn.on.same
 
 pub returns-then-over-2 : goal.returns-then-over-2
-returns-then-over-2 c = 
+returns-then-over-2 c =
     let told = steps.state-last c.loop-h.invariant c.arrived-then-over-2.result _ (level-some _ c.if-level-le0.false).0 c.arrived-then-over-2.ensures in
     record { onward = told.0; done = told.1 }
 
@@ -196,7 +195,7 @@ pub shape_of-dst-then-ends : goal.shape_of-dst-then-ends
 shape_of-dst-then-ends c = (ended (goal.at.shape_of-dst-then-ends c).After-put_quad-then-ends).on.same
 
 pub returns-then-ends : goal.returns-then-ends
-returns-then-ends c = 
+returns-then-ends c =
     let told = steps.turn_last c.loop-h.invariant.asked (ended (goal.at.returns-then-ends c).After-put_quad-then-ends) (omega arith, c.window.ensures) c.arrived-then-ends.result c.arrived-then-ends.ensures in
     record { onward = told.0; done = told.1 }
 
@@ -207,6 +206,6 @@ pub shape_of-dst : goal.shape_of-dst
 shape_of-dst c = c.loop-h.invariant.turn.on.same
 
 pub returns : goal.returns
-returns c = 
+returns c =
     let told = steps.state-last c.loop-h.invariant c.arrived-2.result _ (sym c.above-w.ensures) c.arrived-2.ensures in
     record { onward = told.0; done = told.1 }

@@ -1,16 +1,11 @@
 -- `fast_scaled` meets its contract. Assumes nothing.
-use borrow.Author.Rules.{rules}
-use native.Mathlib.Omega.{arith}
-use mathlib.Core.Path.{refl, sym}
-use Prim.Native.Nat.{◌+◌, ◌-◌, ◌*◌}
+use Prim.Native.Nat.{◌-◌}
 use lib.ListN.{length}
-use Rattle.rows.specs.Word.{level_of}
-use Rattle.rows.proofs.LevelLaws.{level-none, level-some, level-wide, level-kept}
 use Rattle.rows.proofs.Steps as steps
 use Rattle.rows.proofs.fast_scaled.Given as goal
 
 abbrev pub invariant-loop-h : goal.invariant-loop-h
-invariant-loop-h l = 
+invariant-loop-h l =
     let call : steps.Call = record { packet = l.packet; selector = l.selector; slice = l.initial.dst; out = l.out; width = l.width; reader = l.reader } in
     steps.State l.n l.last l.end l.stop l.room (record { call = call; d = l.dst; place = l.place; word = l.word; level = l.level; i = l.i })
 

@@ -1,5 +1,4 @@
 -- `group` meets its contract. Assumes nothing.
-use borrow.Author.Rules.{rules}
 use native.Mathlib.Nat.{lt_of_lt_of_le}
 use lib.Pow.{pow_mono}
 use mir.Syntax.{w32}

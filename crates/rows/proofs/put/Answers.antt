@@ -1,5 +1,4 @@
 -- `put` meets its contract. Assumes nothing.
-use borrow.Author.Rules.{rules}
 use lib.Seq.{set_out}
 use mathlib.Core.Path.{sym}
 use Rattle.rows.proofs.put.Goals as goal

@@ -1,5 +1,4 @@
 -- `put4` meets its contract. Assumes nothing.
-use borrow.Author.Rules.{rules}
 use mir.Syntax.{w32}
 use mir.ValLaws.{to_z-of_z}
 use Rattle.rows.proofs.put4.Goals.{After-put-2, After-put-3}

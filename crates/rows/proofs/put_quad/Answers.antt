@@ -1,5 +1,4 @@
 -- `put_quad` meets its contract. Assumes nothing.
-use borrow.Author.Rules.{rules}
 use native.Mathlib.Omega.{arith}
 use lib.ListN.{length-set}
 use Rattle.rows.proofs.put_quad.Goals as goal

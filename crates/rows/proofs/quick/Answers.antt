@@ -1,5 +1,4 @@
 -- `quick` meets its contract. Assumes nothing.
-use borrow.Author.Rules.{rules}
 use native.Mathlib.Omega.{arith}
 use mathlib.Core.Path.{◌≡◌}
 use Rattle.rows.proofs.quick.Goals as goal

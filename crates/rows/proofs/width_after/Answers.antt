@@ -1,5 +1,4 @@
 -- `width_after` meets its contract. Assumes nothing.
-use borrow.Author.Rules.{rules}
 use borrow.Author.Tests.{eq-eqb, ne_eqb}
 use Rattle.format.specs.Coefficients.{width_after}
 use Rattle.rows.proofs.width_after.Goals as goal

@@ -1,5 +1,4 @@
 -- `width_next` meets its contract. Assumes nothing.
-use borrow.Author.Rules.{rules}
 use borrow.Author.Tests.{le-leb, lt-leb}
 use Rattle.format.specs.Coefficients.{width_next}
 use Rattle.rows.proofs.width_next.Goals as goal
@@ -11,6 +10,6 @@ returns-then-groups-le1 c = record { result_value = simp (le-leb _ _ c.if-groups
 pub returns : goal.returns
 unfolding width_next
 returns c = record {
-      result_value = simp (lt-leb _ _ c.if-groups-le1.false, c.width_update.ensures.result_value);
-      ready_2 = c.width_update.ensures.ready_2;
-    }
+  result_value = simp (lt-leb _ _ c.if-groups-le1.false, c.width_update.ensures.result_value);
+  ready_2 = c.width_update.ensures.ready_2;
+}

@@ -1,5 +1,4 @@
 -- `zero_groups` meets its contract. Assumes nothing.
-use borrow.Author.Rules.{rules}
 use native.Mathlib.Omega.{arith}
 use Rattle.format.specs.Coefficients.{zeros_of}
 use Rattle.rows.proofs.zero_groups.Goals.{After-width_after-n}

@@ -1,5 +1,4 @@
 -- `words::byte` meets its contract: an element of a byte slice is below 256. Assumes nothing.
-use borrow.Author.Rules.{rules}
 use mathlib.Core.Path.{refl}
 use native.Mathlib.Omega.{arith}
 use Rattle.words.proofs.byte.Goals as goal

@@ -1,5 +1,4 @@
 -- `words::field` meets its contract: the first n bits of the word at the place. Assumes nothing.
-use borrow.Author.Rules.{rules}
 use mathlib.Core.Path.{◌∙◌}
 use Rattle.format.proofs.BitLaws.{prefix, bits-lt}
 use Rattle.words.proofs.field.Goals as goal

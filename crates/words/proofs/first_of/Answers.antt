@@ -1,5 +1,4 @@
 -- `words::first_of` meets its contract. Assumes nothing.
-use borrow.Author.Rules.{rules}
 use mathlib.Core.Path.{sym}
 use Rattle.format.proofs.TurnLaws.{stops}
 use Rattle.words.proofs.first_of.Goals as goal

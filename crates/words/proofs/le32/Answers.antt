@@ -1,6 +1,5 @@
 -- `words::le32` meets its contract. Assumes nothing.
 use native.Mathlib.Omega.{arith}
-use borrow.Author.Rules.{rules}
 use Rattle.format.specs.Bits.{little32}
 use Rattle.words.proofs.le32.Goals as goal
 

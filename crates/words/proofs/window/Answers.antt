@@ -1,6 +1,5 @@
 -- `words::window` meets its contract: the word that is loaded starts no later than the place, and earlier by more than 7 bits only where it is the slice's last.
 -- Assumes nothing.
-use borrow.Author.Rules.{rules}
 use mathlib.Core.Path.{sym, ap, ◌∙◌}
 use mathlib.Core.List.{List}
 use Prim.Native.Nat.{◌-◌, ℕ, ◌+◌, ◌*◌, ◌/◌, ◌%◌, ◌^◌, ◌≤◌, ◌<◌}
@@ -20,8 +19,8 @@ record Chosen (s : List ℕ) (place i : ℕ) : Type 0 where
 chosen : (c : Joined-last-i) → Chosen c.args.s.now c.args.place c.if-last-i.i
 chosen c =
     elim c.if-last-i.branch [
-      then-last-i w ↦ record { room = omega arith; before = omega arith; end = λ h. omega arith }
-    | else-last-i w ↦ record { room = omega arith; before = omega arith; end = λ h. omega arith }
+      | then-last-i w ↦ record { room = omega arith; before = omega arith; end = λ h. omega arith }
+      | else-last-i w ↦ record { room = omega arith; before = omega arith; end = λ h. omega arith }
     ]
 
 pub returns-then-k-gt63 : goal.returns-then-k-gt63

@@ -1,8 +1,7 @@
 -- `wrap32::edge_detail` meets its contract. Assumes nothing.
-use borrow.Author.Rules.{rules}
 use mathlib.Core.Path.{◌∙◌}
 use mir.Facts.{to_z-of_z}
-use Rattle.wrap32.proofs.Laws.{half-fits, odd-bit, read_back, add_w-fits, sign_fits, edge-signed, edge-plain}
+use Rattle.wrap32.proofs.Laws.{odd-bit, read_back, add_w-fits, sign_fits, edge-signed, edge-plain}
 use Rattle.wrap32.proofs.edge_detail.Goals as goal
 
 pub returns-then-x-odd : goal.returns-then-x-odd

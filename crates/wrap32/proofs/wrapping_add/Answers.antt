@@ -1,5 +1,4 @@
 -- `wrap32::wrapping_add` meets its contract: at 64 bits nothing wraps, and the cut is `cut32`'s. Assumes nothing.
-use borrow.Author.Rules.{rules}
 use mir.Syntax.{w32}
 use mir.Facts.{to_z-of_z}
 use Rattle.wrap32.specs.Cut.{add_w}

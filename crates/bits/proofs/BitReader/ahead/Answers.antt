@@ -1,5 +1,4 @@
 -- `BitReader::ahead` meets its contract. Assumes nothing.
-use borrow.Author.Rules.{rules}
 use mathlib.Core.Path.{◌∙◌}
 use Rattle.format.proofs.BitLaws.{prefix}
 use Rattle.bits.proofs.BitReader.ahead.Goals as goal

@@ -1,7 +1,6 @@
 -- `BitReader::new` meets its contract. Assumes nothing.
 use mathlib.Core.Path.{ap, ◌∙◌}
 use Prim.Native.Nat.{ℕ, ◌*◌}
-use borrow.Author.Rules.{rules}
 use Rattle.bits.proofs.BitReader.new.Goals as goal
 
 pub returns : goal.returns
