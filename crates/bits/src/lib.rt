@@ -88,7 +88,7 @@ pub fn changed(word: u64, width: u64) -> Change
         return Change { width, used: 1 };
     }
     let z = u64::leading_zeros(word << 2) as u64;
-    if word < 0x_c000_0000_0000_0000 {
+    if word < 0xC000_0000_0000_0000 {
         return Change {
             width: width + z + 1,
             used: z + 3,
@@ -107,7 +107,7 @@ fn opened(word: u64) -> Change
     if word < 0x8000_0000_0000_0000 {
         return Change { width: 0, used: 1 };
     }
-    if word < 0x_c000_0000_0000_0000 {
+    if word < 0xC000_0000_0000_0000 {
         let z = u64::leading_zeros(word << 2) as u64;
         return Change {
             width: z + 1,

@@ -179,7 +179,7 @@ module _ (w H : ℕ) (v : Coefs) where
   -- group sizes at 16, and zeros up to 48
   unfoldable pub header_bits : List ℕ
   header_bits =
-      number_bits 32 0x41303030 ++ (zero_bits 32 ++ (number_bits 16 w ++ (number_bits 16 (H / 2) ++ (number_bits 16 0x0100 ++ (number_bits 16 0x6_c00
+      number_bits 32 0x41303030 ++ (zero_bits 32 ++ (number_bits 16 w ++ (number_bits 16 (H / 2) ++ (number_bits 16 0x0100 ++ (number_bits 16 0x6C00
       ++ (rows 5 (λ g. number_bits 24 (group_units g)) ++ zero_bits 136))))))
 
   unfoldable pub stream_bits : List ℕ
