@@ -125,7 +125,7 @@ module _ (w H : ℕ) (v : Coefs) (work : List ℤ) (h : Holds w H v work) where
         let c = number_bits 16 w in
         let d = number_bits 16 (H / 2) in
         let m = number_bits 16 0x0100 in
-        let n = number_bits 16 0x6_c00 in
+        let n = number_bits 16 0x6C00 in
         let sizes = rows 5 (λ g. number_bits 24 (group_units w H v g)) in
         let z = zero_bits 136 in
         let blocks = rows 5 (block_bits w H v) in

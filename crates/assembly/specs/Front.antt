@@ -34,7 +34,7 @@ module _ (u : List ℕ) where
 -- up to the group sizes
 abbrev pub named_of : ℕ → ℕ → List ℕ
 named_of w H =
-    number_bits 32 0x41303030 ++ (number_bits 32 0 ++ (number_bits 16 w ++ (number_bits 16 (H / 2) ++ (number_bits 16 0x0100 ++ number_bits 16 0x6_c00))))
+    number_bits 32 0x41303030 ++ (number_bits 32 0 ++ (number_bits 16 w ++ (number_bits 16 (H / 2) ++ (number_bits 16 0x0100 ++ number_bits 16 0x6C00))))
 
 -- the header and the directory
 abbrev pub front_of : ℕ → ℕ → List ℕ → List ℕ

@@ -128,7 +128,7 @@ fn put_named(out: &mut [u8], w: usize, h: usize) -> BitWriter
     let c = b.put(out, 16, w as u64);
     let d = c.put(out, 16, (h / 2) as u64);
     let e = d.put(out, 16, 0x0100);
-    e.put(out, 16, 0x6_c00)
+    e.put(out, 16, 0x6C00)
 }
 
 // Writes the header and the directory over the whole of `out`. The 17 bytes of zeros are counted off its length: of a constant the compiler

@@ -8,8 +8,8 @@ use lib.IntN.{pos, nat_abs}
 use lib.ListN.{length, get_or}
 use borrow.Author.Tests.{le-leb, lt-ltb, le-ltb, eq-eqb, ne_eqb}
 use Rattle.format.specs.Sizes.{Colour, green, red, blue, index, l1, l2, l3, Group, base, detail, final, number, present, stripes, multiplier, components, columns, numbered, indexed}
-use Rattle.format.specs.Strip.{magic, sides, marks, valid_header, width, group_size}
-use Rattle.format.specs.Packets.{sum, entry_count, packet_start, packet_length, has_entry, packet_of, kind, blocks}
+use Rattle.format.specs.Strip.{magic, sides, marks, valid_header, group_size}
+use Rattle.format.specs.Packets.{sum, entry_count, packet_start, packet_length, has_entry, packet_of, kind}
 use Rattle.format.specs.Refusals.{each, large_refusal, short_refusal, entry_refusal, group_refusal, directory_refusal, wrong_count, tile_refusal, entry_check, plane_refusal, packets_refusal, refusal}
 use Rattle.format.specs.Coefficients.{Coefs, Stretch, record_of, record_values, coefs, packet_stopped, group_stopped, plane_sum, tile_sum, stopped_of}
 use Rattle.format.specs.Used.{packet_used, group_used, bits_of}

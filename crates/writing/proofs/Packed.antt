@@ -107,9 +107,9 @@ unfolding filled
 fill k b h = h and zeros (units k b * k - length b)
 
 module _ (w H : ℕ) (v : Coefs) where
-  pub stream_bits : Bits (stream_bits w H v)
+  pub stream-bits : Bits (stream_bits w H v)
   unfolding stream_bits header_bits block_bits group_bits packet_bits packet_head record_head whole_record
-  stream_bits =
+  stream-bits =
       (number _ _ and zeros 32 and number _ _ and number _ _ and number _ _ and number _ _ and all-rows 5 _ (λ g. number _ _) and zeros 136)
       and all-rows 5 _ (λ g. zeros 4 and number _ _ and all-rows 5 _ (λ k. number _ _))
       and all-rows 5 _ (λ g. all-rows _ _ (λ k.

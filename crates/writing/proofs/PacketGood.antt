@@ -3,14 +3,14 @@ use mathlib.Core.Path.{◌≡◌, refl}
 use mathlib.Core.List.{List}
 use mathlib.Core.Bool.{true, ◌||◌}
 use mathlib.Core.Logic.{⊎_elim}
-use Prim.Native.Nat.{ℕ, zero, suc, ◌+◌, ◌-◌, ◌*◌, ◌≤◌, ◌<◌}
+use Prim.Native.Nat.{ℕ, zero, suc, ◌+◌, ◌*◌, ◌≤◌, ◌<◌}
 use native.Mathlib.Nat.{mul-le-mul_right}
 use native.Mathlib.Omega.{arith}
 use lib.ListN.{length}
 use lib.Dec.{eqb}
 use borrow.Author.Tests.{le-ltb, eq-eqb, ne_eqb}
 use Rattle.format.specs.Sizes.{Colour, Group, base, detail, final, components}
-use Rattle.format.specs.Packets.{sum, control, extra, kind, blocks, size_of, record_bit, record_length, payload_at}
+use Rattle.format.specs.Packets.{sum, size_of, record_bit, record_length, payload_at}
 use Rattle.format.specs.Refusals.{each, record_refusal, packet_refusal}
 use Rattle.format.specs.Coefficients.{Coefs}
 use Rattle.format.specs.Writing.{records, record_bytes, head_units, payload_units, packet_bits, packet_units}

@@ -1,7 +1,7 @@
 -- A written stream is read back: its header, its directory and its packets. The list s may go on past the stream. Assumes nothing.
 use mathlib.Core.Path.{◌≡◌, refl, ◌∙◌}
 use mathlib.Core.List.{List, ◌++◌}
-use Prim.Native.Nat.{ℕ, zero, suc, ◌+◌, ◌-◌, ◌*◌, ◌/◌, ◌%◌, ◌^◌, ◌≤◌, ◌<◌}
+use Prim.Native.Nat.{ℕ, zero, suc, ◌+◌, ◌*◌, ◌/◌, ◌%◌, ◌^◌, ◌≤◌, ◌<◌}
 use native.Mathlib.Omega.{arith}
 use lib.ListN.{length, get_or, length-append}
 use borrow.Author.Tests.{lt-leb, lt-ltb}
@@ -129,7 +129,7 @@ module _ (w H : ℕ) (v : Coefs) where
         pub width : bits_at s 64 16 ≡ w
         pub half : bits_at s 80 16 ≡ H / 2
         pub twelve : bits_at s 96 16 ≡ 0x0100
-        pub fourteen : bits_at s 112 16 ≡ 0x6_c00
+        pub fourteen : bits_at s 112 16 ≡ 0x6C00
         pub sizes : Stand s 128 (rows 5 (λ g. number_bits 24 (group_units w H v g)))
 
       pub header : Header
@@ -137,7 +137,7 @@ module _ (w H : ℕ) (v : Coefs) where
       header =
           let r7 = rows 5 (λ g. number_bits 24 (group_units w H v g)) in
           let r6 = r7 ++ zero_bits 136 in
-          let r5 = number_bits 16 0x6_c00 ++ r6 in
+          let r5 = number_bits 16 0x6C00 ++ r6 in
           let r4 = number_bits 16 0x0100 ++ r5 in
           let r3 = number_bits 16 (H / 2) ++ r4 in
           let r2 = number_bits 16 w ++ r3 in
@@ -147,7 +147,7 @@ module _ (w H : ℕ) (v : Coefs) where
           let c = next-number s 64 16 w r3 f.narrow b.1 in
           let d = next-number s 80 16 (H / 2) r4 (omega (arith, f.low)) c.1 in
           let e = next-number s 96 16 0x0100 r5 (omega arith) d.1 in
-          let g = next-number s 112 16 0x6_c00 r6 (omega arith) e.1 in
+          let g = next-number s 112 16 0x6C00 r6 (omega arith) e.1 in
           record { magic = a.0; width = c.0; half = d.0; twelve = e.0; fourteen = g.0; sizes = stand-left s 128 r7 (zero_bits 136) g.1 }
 
       pub size-read : (g : ℕ) → g < 5 → group_size s g ≡ 16 * group_units w H v g

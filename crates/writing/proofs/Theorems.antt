@@ -30,7 +30,7 @@ use Rattle.format.proofs.TableLaws.{source_in, chosen-in}
 use Rattle.format.proofs.Exact.{Coded, tall-of, SameCoefs, planes-of-coefs}
 use Rattle.encoding.proofs.Finished.{length-packed}
 use Rattle.writing.proofs.Standing.{Stand}
-use Rattle.writing.proofs.Packed.{stream_bits, packed-stands}
+use Rattle.writing.proofs.Packed.{stream-bits, packed-stands}
 use Rattle.writing.proofs.StreamBack.{Fits, length-stream, size-width, size-height}
 use Rattle.writing.proofs.Decoded.{coefs-back, accepted, none-stopped, all-used}
 use Rattle.writing.proofs.Again.{Whole, planes-taken}
@@ -80,7 +80,7 @@ module _ (w H : ℕ) (p : Colour → List ℤ) (work : List ℤ) (stream : List 
 
   stands : Stand left 0 (stream_bits w H v)
   unfolding stream_of
-  stands = rw begins (packed-stands (stream_bits w H v) (drop (stream_length w H v) stream) (stream_bits w H v) (omega (arith, length-stream w H v fits)))
+  stands = rw begins (packed-stands (stream_bits w H v) (drop (stream_length w H v) stream) (stream-bits w H v) (omega (arith, length-stream w H v fits)))
 
   pub length-of : length (stream_of w H v) ≡ stream_length w H v
   unfolding stream_of

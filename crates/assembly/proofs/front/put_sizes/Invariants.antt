@@ -1,0 +1,11 @@
+-- `put_sizes` meets its contract. Assumes nothing.
+use Prim.Native.Nat.{◌-◌, ◌≤◌}
+use Rattle.encoding.specs.Wrote.{Appends}
+use Rattle.assembly.specs.Front.{sizes_of}
+use Rattle.assembly.proofs.front.put_sizes.Given as goal
+
+abbrev pub invariant-loop-g : goal.invariant-loop-g
+invariant-loop-g l = (l.g ≤ 5) × Appends l.initial.out l.out l.initial.r l.r (sizes_of l.units l.g)
+
+abbrev pub decreases-loop-g : goal.decreases-loop-g
+decreases-loop-g l = 5 - l.g

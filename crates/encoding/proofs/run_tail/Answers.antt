@@ -1,0 +1,36 @@
+-- `run_tail` meets its contract. Assumes nothing.
+use borrow.Author.Rules.{rules}
+use mathlib.Core.Path.{sym, ◌∙◌}
+use native.Mathlib.Omega.{arith}
+use Rattle.encoding.proofs.Pushed.{two-more, number-unary}
+use Rattle.encoding.proofs.Turns.{tail-whole, tail-part}
+use Rattle.encoding.proofs.run_tail.Goals as goal
+
+pub returns-then-k-g : goal.returns-then-k-g
+returns-then-k-g c =
+    let s = c.args in
+    let e = c.run_code-c.ensures in
+    record {
+      v_value = e.v_value ∙ sym (tail-whole s.g s.k s.next (search rules));
+      n_bound = (omega (arith, e.n_bound), e.n_bound.1);
+    }
+
+pub both-requires : goal.both-requires
+both-requires c =
+    let s = c.args in
+    let p = c.requires in
+    let e = c.run_code-c.ensures in
+    let some = p.4 (omega arith) in
+    (omega (arith, e.n_bound), e.n_bound.1, two-more s.next some)
+
+pub returns : goal.returns
+returns c =
+    let s = c.args in
+    let p = c.requires in
+    let e = c.run_code-c.ensures in
+    let d = c.both.ensures in
+    let some = p.4 (omega arith) in
+    record {
+      v_value = d.v_value ∙ rw (e.v_value, number-unary s.next some) (sym (tail-part s.g s.k s.next (λ q. omega (arith, c.if-k-g.false))));
+      n_bound = (omega (arith, e.n_bound, d.n_value), d.n_value.1);
+    }
