@@ -18,7 +18,7 @@ use Rattle.format.specs.Synthesis.{bands, ll1, ll2, ll3, outcome, flat}
 use Rattle.format.specs.Table.{start, height, highs, source, band_rows, from_component, from_row}
 use Rattle.format.specs.Table as table
 use Rattle.format.proofs.Exact.{rows-after, after-most}
-use Rattle.format.proofs.TableLaws.{source_in}
+use Rattle.format.proofs.TableLaws.{source_in as source-in}
 use Rattle.passes.specs.declared.Plan.{Plan}
 use Rattle.passes.specs.Plan.{line, unit_of, ll2_units, ll_units, final_units, Fits}
 use Rattle.levels.specs.Placed.{ll_in, source_in, out_in}
@@ -77,7 +77,7 @@ module _ (z : Plan) (at : ℕ) (fits : Fits z at) (v : Coefs) (i : Colour) where
   near-bands l lo hi from count work r live b y p q t =
       let o = source g l (height g z.n l) b y in
       let h = live b y p q t in
-      stood-row z.w z.slots (group_at z at (detail l)) (detail l) fits.1.some (stood g z.n v (detail l) i) work (from_component o) (from_row o) (source_in g z.n fits.0.tall l b y t).1 (r (from_row o / multiplier (detail l)) h.0 h.1)
+      stood-row z.w z.slots (group_at z at (detail l)) (detail l) fits.1.some (stood g z.n v (detail l) i) work (from_component o) (from_row o) (source-in g z.n fits.0.tall l b y t).1 (r (from_row o / multiplier (detail l)) h.0 h.1)
       ∙ source-line g z.n fits.0.tall l i v b y (columns z.w (detail l)) t
 
   -- level 1's ll, where group 0's records stand
@@ -101,9 +101,9 @@ module _ (z : Plan) (at : ℕ) (fits : Fits z at) (v : Coefs) (i : Colour) where
         near-bands l 0 (z.n + 1) from count work r (λ b y _ _ t. (omega arith, record-in l b y t))
       where
         record-in : (l : Level) (b : table.Band) (y : ℕ) → y < band_rows (height g z.n l) (highs g l (height g z.n l)) b → from_row (source g l (height g z.n l) b y) / multiplier (detail l) < z.n + 1
-        record-in l1 b y t = let k = (source_in g z.n fits.0.tall l1 b y t).0 in omega (arith, k)
-        record-in l2 b y t = let k = (source_in g z.n fits.0.tall l2 b y t).0 in omega (arith, k)
-        record-in l3 b y t = let k = (source_in g z.n fits.0.tall l3 b y t).0 in omega (arith, k)
+        record-in l1 b y t = let k = (source-in g z.n fits.0.tall l1 b y t).0 in omega (arith, k)
+        record-in l2 b y t = let k = (source-in g z.n fits.0.tall l2 b y t).0 in omega (arith, k)
+        record-in l3 b y t = let k = (source-in g z.n fits.0.tall l3 b y t).0 in omega (arith, k)
 
     -- all steps of a level make its outcome whole
     made-whole : (l : Level) (out : ℕ) (ll : Plane) (b : table.Band → Plane) (work after : List ℤ)

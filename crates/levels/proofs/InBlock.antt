@@ -7,7 +7,7 @@ use native.Mathlib.Omega.{arith}
 use Rattle.format.specs.Sizes.{Level, l1, l2, l3, detail, multiplier, columns}
 use Rattle.format.specs.Table.{start, height, highs, hl, lh, hh, source, band_rows, from_component, from_row}
 use Rattle.format.specs.Table as table
-use Rattle.format.proofs.TableLaws.{source_in}
+use Rattle.format.proofs.TableLaws.{source_in as source-in}
 use Rattle.passes.specs.declared.Level as code
 use Rattle.passes.specs.Plan.{Sized, Slots, final_units}
 use Rattle.passes.specs.Level.{Lows, Highs, Stands}
@@ -64,7 +64,7 @@ module _ (w s at : ℕ) (z : w % 16 ≡ 0) (some : 1 ≤ s) where
 module _ (g : Bool) (w n s at : ℕ) (z : Sized g w n) (k : Slots w s at) (l : Level) (r : code.Level) (f : Placed g w n s at l r) (out : ℕ) (o : out_in w s at l ≤ out) where
   band-in : (b : table.Band) (a y : ℕ) → a ≡ source_in g w n s at l b y → y < band_rows (height g n l) (highs g l (height g n l)) b → a + columns w (detail l) ≤ out
   band-in b a y e p =
-      let i = source_in g n z.tall l b y p in
+      let i = source-in g n z.tall l b y p in
       omega (arith, e, row-in-slots w s at z.whole k.some l (from_component (source g l (height g n l) b y)) (from_row (source g l (height g n l) b y)) i.1, out-least w s at z.whole k.some l, o)
 
   placed-lows : Lows r out

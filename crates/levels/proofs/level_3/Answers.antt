@@ -1,0 +1,25 @@
+-- `levels::level_3` meets its contract. Assumes nothing.
+use native.Mathlib.Omega.{arith}
+use Rattle.levels.proofs.TableRows.{plain3-placed}
+use Rattle.levels.proofs.level_3.Goals as goal
+
+pub synth_guard3-requires : goal.synth_guard3-requires
+synth_guard3-requires c =
+    rw c.if-z.true at c.requires
+
+pub synth_level_stride-requires : goal.synth_level_stride-requires
+synth_level_stride-requires c =
+    let h = c in
+    let p = rw h.if-z.false at h.requires in
+    omega (arith, p.0.tall, p.0.few)
+
+pub returns-then-z : goal.returns-then-z
+returns-then-z c =
+    rw c.if-z.true c.synth_guard3.ensures
+
+pub returns-else-z : goal.returns-else-z
+returns-else-z c =
+    let h = c in
+    let s = h.args in
+    let p = rw h.if-z.false at h.requires in
+    rw (h.if-z.false, c.synth_level_stride.ensures) (plain3-placed s.z.w s.z.n s.z.slots s.at p.1 p.0)

@@ -1,0 +1,19 @@
+-- `passes::leading_in` meets its contract: k pairs of rows are laid into the ring from out on, and the ring of rows holds low result
+-- from + k - 1 at a. Assumes nothing.
+use mathlib.Core.Path.{◌≡◌}
+use Prim.Native.Nat.{◌+◌, ◌-◌, ◌*◌, ◌≤◌, ◌<◌}
+use lib.ListN.{length}
+use Rattle.lists.specs.Lists.{laid, Apart}
+use Rattle.passes.specs.Plan.{three_rows}
+use Rattle.passes.specs.Level.{HighsAt, Holds, lo_l, hi_l, lead_two, pair_at}
+use Rattle.passes.proofs.leading_in.Given as goal
+
+abbrev pub invariant-loop-k : goal.invariant-loop-k
+invariant-loop-k l =
+    (l.k ≤ l.count) × (l.c ≡ l.g.c) × (l.a ≤ 2 * l.g.c) × (l.b ≤ 2 * l.g.c) × Apart l.a (2 * l.g.c) l.b (2 * l.g.c) × (length l.ring ≡ three_rows l.g.c)
+    × (1 ≤ l.from + l.k → Holds l.ring l.a l.g.c (lo_l l.g l.m l.initial.work (l.from + l.k - 1)) (hi_l l.g l.m l.initial.work (l.from + l.k - 1))) × (length l.work ≡ length l.initial.work)
+    × (l.work ≡ laid (λ j. pair_at l.out l.pairs l.g.c (l.from + j)) (λ j. lead_two l.g l.m l.initial.work (l.from + j)) l.initial.work l.k)
+    × (l.from + l.k < l.m → HighsAt l.g (l.from + l.k) l.at)
+
+abbrev pub decreases-loop-k : goal.decreases-loop-k
+decreases-loop-k l = l.count - l.k

@@ -1,0 +1,45 @@
+-- `passes::order` meets its contract. Assumes nothing.
+use native.Mathlib.Nat.{div-add-mod'}
+use native.Mathlib.Omega.{arith}
+use Rattle.passes.proofs.PlaceLaws.{order-one, part-below}
+use Rattle.passes.proofs.order.Goals as goal
+
+pub overflow_add-result : goal.overflow_add-result
+overflow_add-result c =
+    let h = c in
+    let s = h.args in
+    omega (arith, order-one s.m s.c s.r, rw c.if-kind-eq1.true at h.requires.0)
+
+pub overflow_mul-result-else-kind-eq1 : goal.overflow_mul-result-else-kind-eq1
+overflow_mul-result-else-kind-eq1 c =
+    let h = c in
+    let s = h.args in
+    rw c.quotient-q.ensures (omega (arith, part-below s.m s.kind s.c s.r h.requires.1, h.requires.0))
+
+pub overflow_add-result-else-kind-eq1 : goal.overflow_add-result-else-kind-eq1
+overflow_add-result-else-kind-eq1 c =
+    let h = c in
+    let s = h.args in
+    rw c.quotient-q.ensures (omega (arith, part-below s.m s.kind s.c s.r h.requires.1, h.requires.0))
+
+pub overflow_mul-result-else-kind-eq1-2 : goal.overflow_mul-result-else-kind-eq1-2
+overflow_mul-result-else-kind-eq1-2 c = rw c.quotient-q.ensures (omega (arith, c.requires.0))
+
+pub overflow_mul-result-else-kind-eq1-3 : goal.overflow_mul-result-else-kind-eq1-3
+overflow_mul-result-else-kind-eq1-3 c = let s = c.args in rw c.quotient-q.ensures (omega (arith, div-add-mod' s.r s.m))
+
+pub overflow_sub-result : goal.overflow_sub-result
+overflow_sub-result c = let s = c.args in rw c.quotient-q.ensures (omega (arith, div-add-mod' s.r s.m))
+
+pub overflow_add-result-else-kind-eq1-2 : goal.overflow_add-result-else-kind-eq1-2
+overflow_add-result-else-kind-eq1-2 c =
+    let h = c in
+    rw c.quotient-q.ensures (omega (arith, div-add-mod' h.args.r h.args.m, h.requires.0))
+
+pub returns-then-kind-eq1 : goal.returns-then-kind-eq1
+returns-then-kind-eq1 c =
+    let s = c.args in
+    rw c.if-kind-eq1.true (omega (arith, order-one s.m s.c s.r))
+
+pub returns-else-kind-eq1 : goal.returns-else-kind-eq1
+returns-else-kind-eq1 c = let s = c.args in rw c.quotient-q.ensures (omega (arith, div-add-mod' s.r s.m))
