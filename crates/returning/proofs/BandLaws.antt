@@ -18,7 +18,7 @@ use Rattle.format.specs.Recovery.{back, seek}
 use Rattle.format.specs.Writing.{band_refusal, places}
 use Rattle.format.specs.Numbers.{row_of, packet_rows}
 use Rattle.format.proofs.NumberLaws.{place_of, line_back, laid-seek}
-use Rattle.format.proofs.TableLaws.{source_in}
+use Rattle.format.proofs.TableLaws.{source_in as source-in}
 use Rattle.passes.specs.declared.Band as code-band
 use Rattle.passes.specs.declared.Plan.{Plan}
 use Rattle.passes.specs.Plan.{line, place}
@@ -55,15 +55,15 @@ module _ (z : Plan) (start : ℕ) (l : Level) (work : List ℤ) (held : Held z s
   order y = row_of (detail l) (from_component (src y)) (from_row (src y))
 
   few : (y : ℕ) → y < count → from_component (src y) < components (detail l)
-  few y b = (source_in z.guarded z.n held.fits.0.tall l k y b).1
+  few y b = (source-in z.guarded z.n held.fits.0.tall l k y b).1
 
   low : (y : ℕ) → y < count → order y < packet_rows (detail l) (z.n + 1)
-  low y b = let i = source_in z.guarded z.n held.fits.0.tall l k y b in row_low l z.n (from_component (src y)) (from_row (src y)) i.0 i.1
+  low y b = let i = source-in z.guarded z.n held.fits.0.tall l k y b in row_low l z.n (from_component (src y)) (from_row (src y)) i.0 i.1
 
   -- no ring wraps
   placed_at : (y : ℕ) → y < count → source_in z.guarded z.w z.n z.slots start l k y ≡ first + order y * cols
   placed_at y b =
-      let i = (source_in z.guarded z.n held.fits.0.tall l k y b).0 in
+      let i = (source-in z.guarded z.n held.fits.0.tall l k y b).0 in
       let m : from_row (src y) % (z.slots * multiplier (detail l)) ≡ from_row (src y) = rw held.all (mod-eq_of_lt i) in
       ap (λ (r : ℕ). place first (multiplier (detail l)) 3 cols (from_component (src y)) r) m
       ∙ place_is first (multiplier (detail l)) 3 cols (from_component (src y)) (from_row (src y))

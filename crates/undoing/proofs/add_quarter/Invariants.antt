@@ -1,0 +1,13 @@
+-- `undoing::add_quarter` meets its contract. Assumes nothing.
+use mathlib.Core.Path.{◌≡◌}
+use Prim.Native.Nat.{◌≤◌, ◌-◌}
+use lib.ListN.{length}
+use Rattle.lists.specs.Lists.{put_at, part}
+use Rattle.undoing.specs.Undo.{plus_quarter}
+use Rattle.undoing.proofs.add_quarter.Given as goal
+
+abbrev pub invariant-loop-x : goal.invariant-loop-x
+invariant-loop-x l = (l.x ≤ l.n) × (length l.work ≡ length l.initial.work) × (l.work ≡ put_at l.initial.work l.to (plus_quarter l.x (part l.initial.work l.to l.n) (part l.initial.work l.a l.n) (part l.initial.work l.b l.n)))
+
+abbrev pub decreases-loop-x : goal.decreases-loop-x
+decreases-loop-x l = l.n - l.x

@@ -1,0 +1,65 @@
+-- `undoing::pair_leading` meets its contract. Assumes nothing.
+use mathlib.Core.Path.{◌≡◌, ap, ◌∙◌}
+use Prim.Native.Nat.{◌+◌, ◌-◌, ◌*◌}
+use native.Mathlib.Omega.{arith}
+use Rattle.format.specs.Lifting.{high_leads}
+use Rattle.undoing.specs.Down.{lead_of}
+use Rattle.undoing.proofs.DownLaws.{as_many}
+use Rattle.undoing.proofs.StageLaws.{leading-high, leading_low}
+use Rattle.undoing.proofs.pair_leading.Goals.{After-split_pair, After-undo_high, After-undo_low, Then-y-gt0}
+use Rattle.undoing.proofs.pair_leading.Goals as goal
+
+pub split_pair-requires : goal.split_pair-requires
+split_pair-requires c =
+    let k = c in
+    let s = k.args in
+    let p = k.requires in
+    (p.0, p.1, (as_many s.g.h s.g.m (rw p.2 at p.0.placed.shape)).0)
+
+pub undo_high-requires : goal.undo_high-requires
+undo_high-requires c =
+    let a = (goal.at.undo_high-requires c).After-split_pair in
+    let k = a in
+    let s = k.args in
+    let p = k.requires in
+    (rw a.split_pair.auto.work p.0.placed, omega (arith, p.1, (as_many s.g.h s.g.m (rw p.2 at p.0.placed.shape)).0))
+
+pub undo_low-requires : goal.undo_low-requires
+undo_low-requires c =
+    let b = (goal.at.undo_low-requires c).After-undo_high in
+    let a = b in
+    let p = a.requires in
+    let e = b.undo_high.auto.work ∙ a.split_pair.auto.work in
+    (rw e p.0.placed, omega (arith, p.1))
+
+pub returns-then-y-gt0 : goal.returns-then-y-gt0
+returns-then-y-gt0 c l ready staged =
+    let q = (goal.at.returns-then-y-gt0 c).After-undo_low in
+    let t = (goal.at.After-undo_low q).Then-y-gt0 in
+    let b = (goal.at.Then-y-gt0 t).After-undo_high in
+    let k = b in
+    let s = k.args in
+    let p = k.requires in
+    let y = s.y in
+    let led : lead_of s.g.leads ≡ high_leads = ap lead_of p.2 in
+    let few = (as_many s.g.h s.g.m (rw p.2 at p.0.placed.shape)).0 in
+    let pair = b.split_pair.ensures l y (y - 1) (omega arith) (omega arith) ready staged in
+    let high = leading-high s.g s.c s.from s.s l ready led (2 * y + 2) y _ _ (omega (arith, p.1, few)) (omega arith) (λ r x z. omega (arith, z)) pair b.undo_high.ensures in
+    let pos = t.if-y-gt0.true in
+    let n : y - 1 + 1 ≡ y = omega (arith, pos) in
+    rw n at
+    (leading_low s.g s.c s.from s.s l ready led (2 * y + 2) (y + 1) (y - 1) _ _ (omega (arith, p.1)) (omega arith) (λ r x z. omega (arith, z, pos)) high q.undo_low.ensures)
+
+pub returns-else-y-gt0 : goal.returns-else-y-gt0
+returns-else-y-gt0 c l ready staged =
+    let b = (goal.at.returns-else-y-gt0 c).After-undo_high in
+    let k = b in
+    let s = k.args in
+    let p = k.requires in
+    let y = s.y in
+    let led : lead_of s.g.leads ≡ high_leads = ap lead_of p.2 in
+    let few = (as_many s.g.h s.g.m (rw p.2 at p.0.placed.shape)).0 in
+    let pair = b.split_pair.ensures l y (y - 1) (omega arith) (omega arith) ready staged in
+    let high = leading-high s.g s.c s.from s.s l ready led (2 * y + 2) y _ _ (omega (arith, p.1, few)) (omega arith) (λ r x z. omega (arith, z)) pair b.undo_high.ensures in
+    let n : y - 1 ≡ y = omega (arith, c.if-y-gt0.false) in
+    rw n at high

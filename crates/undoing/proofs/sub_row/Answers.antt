@@ -1,0 +1,48 @@
+-- `undoing::sub_row` meets its contract. Assumes nothing.
+use mathlib.Core.Path.{◌≡◌, refl, sym, ◌∙◌}
+use mathlib.Core.Logic.{inr}
+use Prim.Native.Nat.{ℕ, ◌+◌}
+use native.Mathlib.Omega.{arith}
+use lib.IntN.{ℤ, pos}
+use lib.ListN.{length-set}
+use mir.Syntax.{w32}
+use mir.Val.{SFits}
+use mir.Facts.{to_z-of_z}
+use Rattle.wrap32.specs.Cut.{sub_w}
+use Rattle.wrap32.proofs.Laws.{read_back, sub_w-fits}
+use Rattle.lists.specs.Lists.{Clear, part}
+use Rattle.lists.proofs.Tab.{get_d_part}
+use Rattle.lists.proofs.Put.{put-start, put_step, get_or-clear}
+use Rattle.lifting.specs.Lift.{at}
+use borrow.Author.Rules.{rules, sfits_of}
+use Rattle.undoing.proofs.sub_row.Goals as goal
+
+pub loop-x-init : goal.loop-x-init
+loop-x-init c = let s = c.args in (search rules, refl, put-start s.work.now s.to _)
+
+pub loop-x-preserved : goal.loop-x-preserved
+loop-x-preserved c =
+    let h = c in
+    let s = h.args in
+    let l = s.work.now in
+    let m = h.loop-x.work in
+    let n = s.n in
+    let x = h.loop-x.x in
+    let p = h.requires in
+    let e = h.loop-x.invariant.2 in
+    let f1 : SFits w32 (at m (s.to + x)) = sfits_of c.wrapping_sub-arg-1.given in
+    let f2 : SFits w32 (at m (s.a + x)) = sfits_of c.wrapping_sub-arg-in-loop-x-1.given in
+    let r = read_back (simp to_z-of_z at c.wrapping_sub.ensures) (sub_w-fits _ _) in
+    let g : ℕ → ℤ = λ x. sub_w (at (part l s.to n) x) (at (part l s.a n) x) in
+    let k : (o : ℕ) → Clear s.to n o → at m (o + x) ≡ at (part l o n) x =
+    λ o b. get_or-clear l m s.to n o x g (pos 0) e (omega arith) (omega arith) b ∙ sym (get_d_part l o n x (pos 0) (omega arith)) in
+    let own : Clear s.to n s.to = inr (omega arith) in (
+      omega arith,
+      simp length-set h.loop-x.invariant.1,
+      put_step l m s.to x g _ e (omega arith) (r ∙ (λ i. sub_w (k s.to own i) (k s.a p.2 i))),
+    )
+
+pub returns : goal.returns
+returns c =
+    let e : c.loop-x.x ≡ c.args.n = omega arith in
+    rw e at c.loop-x.invariant.2
