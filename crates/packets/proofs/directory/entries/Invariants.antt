@@ -1,0 +1,13 @@
+-- `packets::directory::entries` meets its contract. Assumes nothing.
+use mathlib.Core.Path.{◌≡◌, sym}
+use Prim.Native.Nat.{◌-◌, ◌*◌, ◌^◌, ◌≤◌}
+use native.Mathlib.Omega.{arith}
+use Rattle.format.specs.Packets.{sum, entry_length}
+use Rattle.format.proofs.TurnLaws.{sum-none, sum-on}
+use Rattle.packets.proofs.directory.entries.Given as goal
+
+abbrev pub invariant-loop-i : goal.invariant-loop-i
+invariant-loop-i l = (l.total ≡ sum (entry_length l.stream l.at) l.i) × (l.total ≤ l.i * 2 ^ 28) × (l.i ≤ l.index)
+
+abbrev pub decreases-loop-i : goal.decreases-loop-i
+decreases-loop-i l = l.index - l.i
