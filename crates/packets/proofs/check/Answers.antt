@@ -1,7 +1,6 @@
 -- `packets::check` meets its contract. Assumes nothing.
 use mathlib.Core.Path.{sym, ◌∙◌}
 use native.Mathlib.Omega.{arith}
-use borrow.Author.Rules.{rules}
 use borrow.Author.Tests.{ne_eqb}
 use Rattle.packets.specs.Answers.{checked_of}
 use Rattle.format.proofs.DirectoryLaws.{refusal-long}

@@ -1,7 +1,6 @@
 -- `packets::check_entry` meets its contract. Assumes nothing.
 use mathlib.Core.Path.{sym, ap, ◌∙◌}
 use native.Mathlib.Omega.{arith}
-use borrow.Author.Rules.{rules}
 use Rattle.packets.specs.Answers.{entry_number}
 use Rattle.format.proofs.TurnLaws.{stops}
 use Rattle.format.proofs.RecordLaws.{packet-long}
@@ -14,14 +13,14 @@ returns-in_default c =
     let found = (goal.at.returns-in_default c).After-find_entry in
     let s = found in
     let a = s.args in
-    simp (entry-check a.stream.now a.group a.index found.find_entry.result found.find_entry.ensures.result_value s.requires.1, c.enum_told-in_default-1.given.1)
+    simp (entry-check a.stream.now a.group a.index found.find_entry.result found.find_entry.ensures.result_value s.requires.1, c.in_default.is)
 
 pub packet-found-requires : goal.packet-found-requires
 packet-found-requires c =
     let found = (goal.at.packet-found-requires c).After-find_entry in
     let s = found in
     let a = s.args in
-    let inside = found_inside a.stream.now a.group a.index found.find_entry.result found.find_entry.ensures.result_value s.requires.3 s.requires.1 (ap entry_number c.enum_told-1.given.1) in
+    let inside = found_inside a.stream.now a.group a.index found.find_entry.result found.find_entry.ensures.result_value s.requires.3 s.requires.1 (ap entry_number c.in-Present.is) in
     (s.requires.0, s.requires.1, s.requires.2, inside)
 
 pub returns-then-bad-ne0 : goal.returns-then-bad-ne0
@@ -33,7 +32,7 @@ returns-then-bad-ne0 c =
     let a = s.args in
     simp (
       entry-check a.stream.now a.group a.index found.find_entry.result found.find_entry.ensures.result_value s.requires.1,
-      told.enum_told-1.given.1,
+      told.in-Present.is,
       ← p.packet-found.ensures,
       ← c.parse_packet-bad.ensures,
     ) (sym (stops _ _ c.if-bad-ne0.true))
@@ -49,7 +48,7 @@ returns c =
     let a = s.args in
     simp (
       entry-check a.stream.now a.group a.index found.find_entry.result found.find_entry.ensures.result_value s.requires.1,
-      told.enum_told-1.given.1,
+      told.in-Present.is,
       ← p.packet-found.ensures,
       ← e.parse_packet-bad.ensures,
       e.if-bad-ne0.false,

@@ -1,5 +1,4 @@
 -- `packets::check_in_tile` meets its contract. Assumes nothing.
-use borrow.Author.Rules.{rules}
 use borrow.Author.Tests.{lt-ltb, le-ltb}
 use Rattle.format.specs.Refusals.{tile_refusal}
 use Rattle.packets.proofs.check_in_tile.Goals as goal

@@ -1,6 +1,5 @@
 -- `packets::check_packets` meets its contract. Assumes nothing.
 use mathlib.Core.Path.{sym}
-use borrow.Author.Rules.{rules}
 use Rattle.format.specs.Refusals.{packets_refusal}
 use Rattle.format.proofs.TurnLaws.{stops}
 use Rattle.packets.proofs.check_packets.Goals as goal

@@ -1,5 +1,4 @@
 -- `packets::lengths_by` meets its contract. Assumes nothing.
-use borrow.Author.Rules.{rules}
 use borrow.Author.Tests.{lt-ltb}
 use Rattle.format.specs.Refusals.{large_refusal}
 use Rattle.packets.proofs.LengthLaws.{measured-lengths}

@@ -1,5 +1,4 @@
 -- `packets::one_in_detail` meets its contract. Assumes nothing.
-use borrow.Author.Rules.{rules}
 use borrow.Author.Tests.{eq-eqb, ne_eqb}
 use Rattle.packets.proofs.one_in_detail.Goals as goal
 

@@ -1,5 +1,4 @@
 -- `packets::packet` meets its contract. Assumes nothing.
-use borrow.Author.Rules.{rules}
 use mathlib.Core.Path.{◌≡◌, ap}
 use Prim.Native.Nat.{ℕ, ◌+◌, ◌-◌}
 use native.Mathlib.Omega.{arith}
@@ -16,5 +15,5 @@ returns c =
     let s = c.args.stream.now in
     let start = c.packet_start-start in
     let n = c.packet_length in
-    let same : start.result-1 + n.result-1 - start.result-1 ≡ n.result-1 = omega arith in
-    rw (← start.ensures.0, ← n.ensures.0) (ap (λ (k : ℕ). take k (drop start.result-1 s)) same)
+    let same : start.result + n.result - start.result ≡ n.result = omega arith in
+    rw (← start.ensures.0, ← n.ensures.0) (ap (λ (k : ℕ). take k (drop start.result s)) same)

@@ -1,6 +1,5 @@
 -- `packets::wrong_count` meets its contract. Assumes nothing.
-use borrow.Author.Rules.{rules}
-use borrow.Author.Tests.{eq-eqb, ne_eqb, not-true, not-false}
+use borrow.Author.Tests.{eq-eqb, ne_eqb}
 use Rattle.format.specs.Refusals.{wrong_count}
 use Rattle.packets.proofs.wrong_count.Goals as goal
 
@@ -13,11 +12,11 @@ unfolding wrong_count
 returns-then-not-guarded c =
     let g = c.guarded in
     let e = c in
-    simp (← e.stripes-n.ensures.0, ne_eqb _ _ e.if-count-n.false, ← g.ensures, not-true g.result c.if-not-guarded.true-raw)
+    simp (← e.stripes-n.ensures.0, ne_eqb _ _ e.if-count-n.false, ← g.ensures, c.if-not-guarded.true)
 
 pub returns : goal.returns
 unfolding wrong_count
 returns c =
     let g = c.guarded in
     let e = c in
-    simp (← e.stripes-n.ensures.0, ne_eqb _ _ e.if-count-n.false, ← g.ensures, not-false g.result c.if-not-guarded.false)
+    simp (← e.stripes-n.ensures.0, ne_eqb _ _ e.if-count-n.false, ← g.ensures, c.if-not-guarded.false)

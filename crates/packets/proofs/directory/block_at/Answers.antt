@@ -1,8 +1,6 @@
 -- `packets::directory::block_at` meets its contract. Assumes nothing.
 use mathlib.Core.Path.{◌≡◌, sym}
-use Prim.Native.Nat.{◌+◌, ◌-◌, ◌*◌, ◌≤◌}
 use native.Mathlib.Omega.{arith}
-use Rattle.format.specs.Packets.{block_at}
 use Rattle.format.proofs.DirectoryLaws.{block_none, block_on}
 use Rattle.packets.proofs.directory.block_at.Goals as goal
 

@@ -1,9 +1,7 @@
 -- `packets::directory::block_at` meets its contract. Assumes nothing.
-use mathlib.Core.Path.{◌≡◌, sym}
+use mathlib.Core.Path.{◌≡◌}
 use Prim.Native.Nat.{◌+◌, ◌-◌, ◌*◌, ◌≤◌}
-use native.Mathlib.Omega.{arith}
 use Rattle.format.specs.Packets.{block_at}
-use Rattle.format.proofs.DirectoryLaws.{block_none, block_on}
 use Rattle.packets.proofs.directory.block_at.Given as goal
 
 abbrev pub invariant-loop-i : goal.invariant-loop-i

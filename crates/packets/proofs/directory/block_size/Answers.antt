@@ -1,6 +1,5 @@
 -- `packets::directory::block_size` meets its contract. Assumes nothing.
 use native.Mathlib.Omega.{arith}
-use borrow.Author.Rules.{rules}
 use borrow.Author.Tests.{le-leb, lt-leb}
 use Rattle.format.specs.Packets.{block_size}
 use Rattle.packets.proofs.directory.block_size.Goals as goal

@@ -1,9 +1,7 @@
 -- `packets::directory::check_entries` meets its contract. What was passed lies within the stream; the next packet starts where the last one ends. Assumes nothing.
 use mathlib.Core.Path.{◌≡◌, refl, sym, ◌∙◌}
-use Prim.Native.Nat.{◌+◌, ◌-◌, ◌*◌, ◌^◌, ◌≤◌}
 use native.Mathlib.Omega.{arith}
-use Rattle.format.specs.Packets.{packet_start}
-use Rattle.format.specs.Refusals.{each, entry_refusal}
+use Rattle.format.specs.Refusals.{entry_refusal}
 use Rattle.format.proofs.TurnLaws.{each_none, each_on, refused}
 use Rattle.format.proofs.DirectoryLaws.{seven, within, start_none, start-on, length-read}
 use Rattle.packets.proofs.directory.check_entries.Goals as goal

@@ -1,6 +1,5 @@
 -- `packets::directory::check_group` meets its contract. Assumes nothing.
 use mathlib.Core.Path.{sym}
-use borrow.Author.Rules.{rules}
 use borrow.Author.Tests.{lt-ltb, le-ltb}
 use Rattle.format.specs.Refusals.{group_refusal}
 use Rattle.format.proofs.TurnLaws.{stops}

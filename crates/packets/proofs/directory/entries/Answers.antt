@@ -1,8 +1,7 @@
 -- `packets::directory::entries` meets its contract. Assumes nothing.
 use mathlib.Core.Path.{◌≡◌, sym}
-use Prim.Native.Nat.{◌-◌, ◌*◌, ◌^◌, ◌≤◌}
 use native.Mathlib.Omega.{arith}
-use Rattle.format.specs.Packets.{sum, entry_length}
+use Rattle.format.specs.Packets.{entry_length}
 use Rattle.format.proofs.TurnLaws.{sum-none, sum-on}
 use Rattle.packets.proofs.directory.entries.Goals as goal
 

@@ -1,6 +1,5 @@
 -- `packets::directory::entry_count` meets its contract. Assumes nothing.
 use native.Mathlib.Omega.{arith}
-use borrow.Author.Rules.{rules}
 use Rattle.format.specs.Packets.{entry_count}
 use Rattle.packets.proofs.directory.entry_count.Goals as goal
 

@@ -1,6 +1,5 @@
 -- `packets::directory::entry_length` meets its contract. Assumes nothing.
 use native.Mathlib.Omega.{arith}
-use borrow.Author.Rules.{rules}
 use Rattle.format.specs.Packets.{entry_length}
 use Rattle.packets.proofs.directory.entry_length.Goals as goal
 

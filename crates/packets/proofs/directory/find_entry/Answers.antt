@@ -1,5 +1,4 @@
 -- `packets::directory::find_entry` meets its contract. Assumes nothing.
-use borrow.Author.Rules.{rules}
 use borrow.Author.Tests.{lt-ltb, le-ltb}
 use Rattle.format.specs.Packets.{has_entry}
 use Rattle.packets.specs.Answers.{entry_of}

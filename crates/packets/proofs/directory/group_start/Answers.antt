@@ -1,8 +1,6 @@
 -- `packets::directory::group_start` meets its contract. Assumes nothing.
 use mathlib.Core.Path.{◌≡◌, sym}
-use Prim.Native.Nat.{◌+◌, ◌-◌, ◌*◌, ◌^◌, ◌≤◌}
 use native.Mathlib.Omega.{arith}
-use Rattle.format.specs.Packets.{group_start}
 use Rattle.format.proofs.DirectoryLaws.{group-none, group-on}
 use Rattle.packets.proofs.directory.group_start.Goals as goal
 

@@ -1,9 +1,7 @@
 -- `packets::directory::group_start` meets its contract. Assumes nothing.
-use mathlib.Core.Path.{◌≡◌, sym}
+use mathlib.Core.Path.{◌≡◌}
 use Prim.Native.Nat.{◌+◌, ◌-◌, ◌*◌, ◌^◌, ◌≤◌}
-use native.Mathlib.Omega.{arith}
 use Rattle.format.specs.Packets.{group_start}
-use Rattle.format.proofs.DirectoryLaws.{group-none, group-on}
 use Rattle.packets.proofs.directory.group_start.Given as goal
 
 abbrev pub invariant-loop-i : goal.invariant-loop-i

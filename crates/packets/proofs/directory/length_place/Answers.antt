@@ -1,6 +1,5 @@
 -- `packets::directory::length_place` meets its contract. Assumes nothing.
 use native.Mathlib.Omega.{arith}
-use borrow.Author.Rules.{rules}
 use borrow.Author.Tests.{lt-ltb, le-ltb}
 use Rattle.format.specs.Packets.{length_place}
 use Rattle.packets.proofs.directory.length_place.Goals as goal

@@ -1,6 +1,5 @@
 -- `packets::directory::packet_length` meets its contract. Assumes nothing.
 use native.Mathlib.Omega.{arith}
-use borrow.Author.Rules.{rules}
 use Rattle.format.specs.Packets.{packet_length}
 use Rattle.packets.proofs.directory.packet_length.Goals as goal
 

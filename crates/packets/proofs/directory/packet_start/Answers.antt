@@ -1,6 +1,5 @@
 -- `packets::directory::packet_start` meets its contract. Assumes nothing.
 use native.Mathlib.Omega.{arith}
-use borrow.Author.Rules.{rules}
 use Rattle.format.specs.Packets.{packet_start}
 use Rattle.packets.proofs.directory.packet_start.Goals as goal
 

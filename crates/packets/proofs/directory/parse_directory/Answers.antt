@@ -1,8 +1,7 @@
 -- `packets::directory::parse_directory` meets its contract. Assumes nothing.
 use mathlib.Core.Path.{◌≡◌, sym, ◌∙◌}
-use Prim.Native.Nat.{◌-◌, ◌≤◌}
 use native.Mathlib.Omega.{arith}
-use Rattle.format.specs.Refusals.{each, group_refusal, directory_refusal}
+use Rattle.format.specs.Refusals.{group_refusal, directory_refusal}
 use Rattle.format.proofs.TurnLaws.{each_none, each_on, each-stop}
 use Rattle.packets.proofs.directory.parse_directory.Goals as goal
 

@@ -1,17 +1,11 @@
 -- `packets::records::check_records` meets its contract. The records passed lie within the packet; the next one's bytes start where the last one's end. Assumes nothing.
 use mathlib.Core.Path.{◌≡◌, refl, sym}
-use Prim.Native.Nat.{◌+◌, ◌-◌, ◌*◌, ◌^◌, ◌≤◌}
 use native.Mathlib.Omega.{arith}
-use Rattle.format.specs.Packets.{blocks, payload_at}
-use Rattle.format.specs.Refusals.{each, record_refusal}
+use Rattle.format.specs.Packets.{blocks}
+use Rattle.format.specs.Refusals.{record_refusal}
 use Rattle.format.proofs.TurnLaws.{each_none, each_on, refused}
 use Rattle.format.proofs.RecordLaws.{eleven, eighteen, record-good, payload-on}
-use Rattle.packets.proofs.records.check_records.Goals.{After-record_bit, At-loop-i, Else-packet-record_bit}
 use Rattle.packets.proofs.records.check_records.Goals as goal
-
--- where the loop stands, once the record's bit is reckoned
-abbrev looped : After-record_bit → At-loop-i
-looped c = c.before.before
 
 pub loop-i-init : goal.loop-i-init
 loop-i-init c =
@@ -20,33 +14,26 @@ loop-i-init c =
 
 pub returns-then-packet-record_bit : goal.returns-then-packet-record_bit
 returns-then-packet-record_bit c =
-    let t = looped (goal.at.returns-then-packet-record_bit c).After-record_bit in
-    let count = t in
-    let p = count.args.packet.now in
-    let l = t.loop-i in
+    let p = c.args.packet.now in
+    let l = c.loop-i in
     refused (record_refusal p) l.i (blocks p) 10 l.invariant.0
     (eleven p l.i (rw (← c.record_bit.ensures.0) c.if-packet-record_bit.true))
-    (rw (← count.blocks-count.ensures.0) (omega arith))
+    (rw (← c.blocks-count.ensures.0) (omega arith))
 
 pub returns-then-packet-at : goal.returns-then-packet-at
 returns-then-packet-at c =
-    let e = (goal.at.returns-then-packet-at c).Else-packet-record_bit in
-    let t = looped (goal.at.Else-packet-record_bit e).After-record_bit in
-    let count = t in
-    let p = count.args.packet.now in
-    let l = t.loop-i in
+    let p = c.args.packet.now in
+    let l = c.loop-i in
     refused (record_refusal p) l.i (blocks p) 17 l.invariant.0
-    (eighteen p l.i (rw (← e.record_bit.ensures.0) e.if-packet-record_bit.false) (rw (← l.invariant.1, ← c.record_length-n.ensures.0) c.if-packet-at.true))
-    (rw (← count.blocks-count.ensures.0) (omega arith))
+    (eighteen p l.i (rw (← c.record_bit.ensures.0) c.if-packet-record_bit.false) (rw (← l.invariant.1, ← c.record_length-n.ensures.0) c.if-packet-at.true))
+    (rw (← c.blocks-count.ensures.0) (omega arith))
 
 pub loop-i-preserved : goal.loop-i-preserved
 loop-i-preserved c =
-    let e = (goal.at.loop-i-preserved c).Else-packet-record_bit in
-    let t = looped (goal.at.Else-packet-record_bit e).After-record_bit in
-    let p = t.args.packet.now in
-    let l = t.loop-i in
+    let p = c.args.packet.now in
+    let l = c.loop-i in
     let long = c.record_length-n.ensures in (
-      each_on (record_refusal p) l.i l.invariant.0 (record-good p l.i (rw (← e.record_bit.ensures.0) e.if-packet-record_bit.false) (rw (← l.invariant.1, ← long.0) c.if-packet-at.false)),
+      each_on (record_refusal p) l.i l.invariant.0 (record-good p l.i (rw (← c.record_bit.ensures.0) c.if-packet-record_bit.false) (rw (← l.invariant.1, ← long.0) c.if-packet-at.false)),
       rw (payload-on p l.i, ← l.invariant.1, ← long.0) refl,
       omega (arith, long.1),
       omega arith,
@@ -75,13 +62,13 @@ pub record_bit-requires : goal.record_bit-requires
 record_bit-requires c = (omega arith, omega (arith, c.blocks-count.ensures.1))
 
 pub record_length-n-requires : goal.record_length-n-requires
-record_length-n-requires c = (omega arith, omega (arith, (looped (goal.at.record_length-n-requires c).After-record_bit).blocks-count.ensures.1))
+record_length-n-requires c = (omega arith, omega (arith, c.blocks-count.ensures.1))
 
 pub overflow_add-at : goal.overflow_add-at
-overflow_add-at c = omega (arith, (looped (goal.at.overflow_add-at c).After-record_bit).blocks-count.ensures.1, c.record_length-n.ensures.1)
+overflow_add-at c = omega (arith, c.blocks-count.ensures.1, c.record_length-n.ensures.1)
 
 pub overflow_add-at-in-loop-i : goal.overflow_add-at-in-loop-i
-overflow_add-at-in-loop-i c = omega (arith, (looped (goal.at.overflow_add-at-in-loop-i c).After-record_bit).blocks-count.ensures.1, c.record_length-n.ensures.1)
+overflow_add-at-in-loop-i c = omega (arith, c.blocks-count.ensures.1, c.record_length-n.ensures.1)
 
 pub overflow_add-i-in-loop-i : goal.overflow_add-i-in-loop-i
 overflow_add-i-in-loop-i c = omega arith

@@ -1,11 +1,8 @@
 -- `packets::records::check_records` meets its contract. The records passed lie within the packet; the next one's bytes start where the last one's end. Assumes nothing.
-use mathlib.Core.Path.{◌≡◌, refl, sym}
+use mathlib.Core.Path.{◌≡◌}
 use Prim.Native.Nat.{◌+◌, ◌-◌, ◌*◌, ◌^◌, ◌≤◌}
-use native.Mathlib.Omega.{arith}
-use Rattle.format.specs.Packets.{blocks, payload_at}
+use Rattle.format.specs.Packets.{payload_at}
 use Rattle.format.specs.Refusals.{each, record_refusal}
-use Rattle.format.proofs.TurnLaws.{each_none, each_on, refused}
-use Rattle.format.proofs.RecordLaws.{eleven, eighteen, record-good, payload-on}
 use Rattle.packets.proofs.records.check_records.Given as goal
 
 abbrev pub invariant-loop-i : goal.invariant-loop-i

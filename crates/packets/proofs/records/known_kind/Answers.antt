@@ -1,5 +1,4 @@
 -- `packets::records::known_kind` meets its contract. Assumes nothing.
-use borrow.Author.Rules.{rules}
 use borrow.Author.Tests.{eq-eqb, ne_eqb}
 use Rattle.packets.proofs.records.known_kind.Goals as goal
 

@@ -1,8 +1,7 @@
 -- `packets::records::parse_packet` meets its contract. Assumes nothing.
 use mathlib.Core.Path.{sym, ◌∙◌}
 use native.Mathlib.Omega.{arith}
-use borrow.Author.Rules.{rules}
-use borrow.Author.Tests.{lt-ltb, le-ltb, eq-eqb, ne_eqb, not-true, not-false}
+use borrow.Author.Tests.{lt-ltb, le-ltb, eq-eqb, ne_eqb}
 use Rattle.format.specs.Refusals.{packet_refusal}
 use Rattle.packets.proofs.HeaderLaws.{header-right}
 use Rattle.packets.proofs.records.parse_packet.Goals.{After-known_kind, After-size_of, After-wrong_blocks, After-wrong_marker, After-wrong_tag}
@@ -38,7 +37,7 @@ returns-then-not-known_kind c =
       ← b.wrong_tag.ensures,
       d.if-wrong_tag.false,
       ← d.known_kind.ensures,
-      not-true d.known_kind.result c.if-not-known_kind.true-raw,
+      c.if-not-known_kind.true,
     )
 
 pub returns-then-wrong_blocks : goal.returns-then-wrong_blocks
@@ -55,7 +54,7 @@ returns-then-wrong_blocks c =
       ← b.wrong_tag.ensures,
       d.if-wrong_tag.false,
       ← d.known_kind.ensures,
-      not-false d.known_kind.result e.if-not-known_kind.false,
+      e.if-not-known_kind.false,
       ← e.wrong_blocks.ensures,
       c.if-wrong_blocks.true,
     )
@@ -75,7 +74,7 @@ returns-then-wrong_marker c =
       ← b.wrong_tag.ensures,
       d.if-wrong_tag.false,
       ← d.known_kind.ensures,
-      not-false d.known_kind.result e.if-not-known_kind.false,
+      e.if-not-known_kind.false,
       ← e.wrong_blocks.ensures,
       f.if-wrong_blocks.false,
       ← f.wrong_marker.ensures,
@@ -98,12 +97,12 @@ returns-then-size_of-packet c =
       ← b.wrong_tag.ensures,
       d.if-wrong_tag.false,
       ← d.known_kind.ensures,
-      not-false d.known_kind.result e.if-not-known_kind.false,
+      e.if-not-known_kind.false,
       ← e.wrong_blocks.ensures,
       f.if-wrong_blocks.false,
       ← f.wrong_marker.ensures,
       g.if-wrong_marker.false,
-      ← g.type_size.ensures.0,
+      ← g.size_of.ensures.0,
       ne_eqb _ _ c.if-size_of-packet.true,
     )
 
@@ -121,11 +120,11 @@ returns c =
     a.if-packet-lt16.false
     (sym a.padding.ensures.0 ∙ b.if-padding-ne0.false)
     (sym b.wrong_tag.ensures ∙ d.if-wrong_tag.false)
-    (sym d.known_kind.ensures ∙ not-false d.known_kind.result e.if-not-known_kind.false)
+    (sym d.known_kind.ensures ∙ e.if-not-known_kind.false)
     (sym e.wrong_blocks.ensures ∙ f.if-wrong_blocks.false)
     (sym f.wrong_marker.ensures ∙ g.if-wrong_marker.false)
-    (sym g.type_size.ensures.0 ∙ c.if-size_of-packet.false)
+    (sym g.size_of.ensures.0 ∙ c.if-size_of-packet.false)
     )
 
 pub check_records-requires : goal.check_records-requires
-check_records-requires c = (omega arith, omega (arith, c.before.type_size.ensures.1, c.if-size_of-packet.false))
+check_records-requires c = (omega arith, omega (arith, c.size_of.ensures.1, c.if-size_of-packet.false))

@@ -1,5 +1,4 @@
 -- `packets::records::wrong_marker` meets its contract. Assumes nothing.
-use borrow.Author.Rules.{rules}
 use borrow.Author.Tests.{eq-eqb, ne_eqb}
 use Rattle.packets.proofs.records.wrong_marker.Goals as goal
 

@@ -1,5 +1,4 @@
 -- `packets::records::wrong_tag` meets its contract. Assumes nothing.
-use borrow.Author.Rules.{rules}
 use borrow.Author.Tests.{eq-eqb, ne_eqb}
 use Rattle.packets.proofs.HeaderLaws.{last-zero}
 use Rattle.packets.proofs.records.wrong_tag.Goals.{After-zero4}
