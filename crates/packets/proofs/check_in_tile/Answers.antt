@@ -1,4 +1,5 @@
 -- `packets::check_in_tile` meets its contract. Assumes nothing.
+use native.Mathlib.Omega.{arith}
 use borrow.Author.Tests.{lt-ltb, le-ltb}
 use Rattle.format.specs.Refusals.{tile_refusal}
 use Rattle.packets.proofs.check_in_tile.Goals as goal
@@ -17,7 +18,7 @@ returns-then-wrong_count c =
     simp (
       ← c.three_outside_detail.ensures,
       c.if-three_outside_detail.false,
-      le-ltb _ _ c.if-height-gt32767.false,
+      le-ltb 32767 c.args.height (omega arith),
       ← c.wrong_count.ensures,
       c.if-wrong_count.true,
     )
@@ -28,7 +29,7 @@ returns-then-n-count c =
     simp (
       ← c.three_outside_detail.ensures,
       c.if-three_outside_detail.false,
-      le-ltb _ _ c.if-height-gt32767.false,
+      le-ltb 32767 c.args.height (omega arith),
       ← c.wrong_count.ensures,
       c.if-wrong_count.false,
       lt-ltb _ _ c.if-n-count.true,
@@ -40,7 +41,7 @@ returns-then-one_in_detail c =
     simp (
       ← c.three_outside_detail.ensures,
       c.if-three_outside_detail.false,
-      le-ltb _ _ c.if-height-gt32767.false,
+      le-ltb 32767 c.args.height (omega arith),
       ← c.wrong_count.ensures,
       c.if-wrong_count.false,
       le-ltb _ _ c.if-n-count.false,
@@ -54,7 +55,7 @@ returns c =
     simp (
       ← c.three_outside_detail.ensures,
       c.if-three_outside_detail.false,
-      le-ltb _ _ c.if-height-gt32767.false,
+      le-ltb 32767 c.args.height (omega arith),
       ← c.wrong_count.ensures,
       c.if-wrong_count.false,
       le-ltb _ _ c.if-n-count.false,

@@ -1,4 +1,5 @@
 -- `packets::directory::check_group` meets its contract. Assumes nothing.
+use native.Mathlib.Omega.{arith}
 use mathlib.Core.Path.{sym}
 use borrow.Author.Tests.{lt-ltb, le-ltb}
 use Rattle.format.specs.Refusals.{group_refusal}
@@ -27,7 +28,7 @@ returns-then-stream-at-2 c =
       ← c.block_at-at.ensures.0,
       le-ltb _ _ c.if-stream-at.false,
       ← c.entry_count-count.ensures.0,
-      le-ltb _ _ c.if-count-gt9.false,
+      le-ltb 9 c.entry_count-count.result (omega arith),
       ← c.block_size.ensures.0,
       lt-ltb _ _ c.if-stream-at-2.true,
     )
@@ -39,7 +40,7 @@ returns-then-bad-ne0 c =
       ← c.block_at-at.ensures.0,
       le-ltb _ _ c.if-stream-at.false,
       ← c.entry_count-count.ensures.0,
-      le-ltb _ _ c.if-count-gt9.false,
+      le-ltb 9 c.entry_count-count.result (omega arith),
       ← c.block_size.ensures.0,
       le-ltb _ _ c.if-stream-at-2.false,
       ← c.check_entries-bad.ensures,
@@ -55,7 +56,7 @@ returns-then-group_size-entries c =
       ← c.block_at-at.ensures.0,
       le-ltb _ _ c.if-stream-at.false,
       ← c.entry_count-count.ensures.0,
-      le-ltb _ _ c.if-count-gt9.false,
+      le-ltb 9 c.entry_count-count.result (omega arith),
       ← c.block_size.ensures.0,
       le-ltb _ _ c.if-stream-at-2.false,
       ← c.check_entries-bad.ensures,
@@ -75,7 +76,7 @@ returns c =
       ← c.block_at-at.ensures.0,
       le-ltb _ _ c.if-stream-at.false,
       ← c.entry_count-count.ensures.0,
-      le-ltb _ _ c.if-count-gt9.false,
+      le-ltb 9 c.entry_count-count.result (omega arith),
       ← c.block_size.ensures.0,
       le-ltb _ _ c.if-stream-at-2.false,
       ← c.check_entries-bad.ensures,
