@@ -1,0 +1,16 @@
+-- `tile::held` meets its contract. Assumes nothing.
+use mathlib.Core.Path.{refl}
+use native.Mathlib.Omega.{arith}
+use borrow.Author.Rules.{rules}
+use Rattle.tile.proofs.held.Goals as goal
+
+pub returns : goal.returns
+returns c =
+    let k = c in
+    rw (c.ring_at.ensures.0, k.columns.ensures.0, k.multiplier.ensures.0) refl
+
+pub ring_at-requires : goal.ring_at-requires
+ring_at-requires c = omega (arith, c.requires.1.small)
+
+pub overflow_add-result : goal.overflow_add-result
+overflow_add-result c = omega (arith, c.ring_at.ensures.1, c.requires.1.small)
