@@ -15,7 +15,6 @@ use Rattle.format.specs.Coefficients.{zeros}
 use Rattle.format.specs.Lifting.{Plane, Lead, low_leads, high_leads, Shape}
 use Rattle.format.specs.Sizes.{Level, detail, columns}
 use Rattle.format.specs.Table.{height, lead, highs, hl, lh, hh}
-use Rattle.format.specs.Table as table
 use Rattle.format.specs.Recovery.{ll_of, band_of, unstep, unband}
 use Rattle.passes.specs.declared.Plan.{Plan}
 use Rattle.levels.specs.Block.{group_at}

@@ -1,0 +1,15 @@
+-- `recovery::rows_1` meets its contract. Assumes nothing.
+use native.Mathlib.Omega.{arith}
+use Rattle.recovery.proofs.rows_1.Goals as goal
+
+pub overflow_sub-result : goal.overflow_sub-result
+overflow_sub-result c =
+    let h = c in
+    let p = rw h.if-z.true at h.requires in
+    omega (arith, p.tall)
+
+pub returns-then-z : goal.returns-then-z
+returns-then-z c = rw c.if-z.true
+
+pub returns-else-z : goal.returns-else-z
+returns-else-z c = rw c.if-z.false
