@@ -102,8 +102,9 @@ returns-in-12 c = λ t m g.
     let p = h.requires in
     let x = rw k.in-12.is at g in
     let near = near-green t s.z p.0 m p.1 _ _ _ _ x in
-    let done = rw (u.unit-u.ensures, n.rows_of.ensures.0) at e.final_rows.ensures in
-    rw k.in-12.is (green-end t s.z p.0 m p.1 _ _ _ _ x _ _ done.1 (done.0 _ _ near))
+    let made = rw (u.unit-u.ensures, n.rows_of.ensures.0) at e.final_rows.ensures.green_after in
+    let same = rw u.unit-u.ensures at e.final_rows.ensures.same_below in
+    rw k.in-12.is (green-end t s.z p.0 m p.1 _ _ _ _ x _ _ same (made _ _ near))
 
 pub returns-in_default : goal.returns-in_default
 returns-in_default c =
