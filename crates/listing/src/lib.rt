@@ -1,13 +1,15 @@
 // The listing that the program `tiles` prints: document 01, 'Points on the line'.
 #![tactic(auto)]
 
-ghost use Rattle.std.specs.Prelude.{◌≡◌, [], ◌∷◌, ◌+◌, ◌≤◌, ◌<◌, length};
+ghost use Rattle.std.specs.Prelude.{◌≡◌, [], ◌∷◌, ◌+◌, ◌≤◌, ◌<◌, length, take, IfOk};
+ghost use Rattle.std.specs.Io.KnownBytes.{Consumes, IsAtEnd};
 ghost use Rattle.lists.specs.Lists.{put_at, rows};
 ghost use Rattle.format.specs.Strip.{tiles_of};
 ghost use Rattle.strip.specs.Answers.{stream_fields};
 ghost use Rattle.listing.specs.Listing.{decimal, ended, line, line_at, listing, response};
 
-use libc::{STDIN_FILENO, STDOUT_FILENO};
+use std::io;
+use std::io::Read;
 use strip::{Located, TileStream};
 
 // The longest input, and the bytes before the strip.
@@ -125,11 +127,28 @@ pub fn respond(input: &[u8], out: &mut [u8; 4096]) -> usize
     list_tiles(&input[SIDES..], full_w, full_h, out)
 }
 
+// Reads until the buffer is full or the input ends, however the input is cut into reads: how many bytes then stand at the buffer's start.
+pub fn read_full<R: Read>(input: &mut R, buf: &mut [u8]) -> io::Result<usize>
+    ensures in_bounds { IfOk result (λ n. n ≤ length buf.new) }
+    ensures bytes { IfOk result (λ n. Consumes (R.remaining input.old) (R.remaining input.new) (take n buf.new)) }
+    ensures end { IfOk result (λ n. n < length buf.new → IsAtEnd (R.remaining input.new)) }
+{
+    let mut done = 0;
+    while done < buf.len() {
+        let n = input.read(&mut buf[done..])?;
+        if n == 0 {
+            return Ok(done);
+        }
+        done += n;
+    }
+    Ok(done)
+}
+
 // Answer standard input, however it is cut into reads, on standard output.
-pub fn run() {
+pub fn run(rt: &(impl Input + Print)) -> io::Result<()> {
     let mut input = [0u8; 65537];
-    let n = io::read_full(STDIN_FILENO, &mut input);
+    let n = read_full(&mut rt.reader(), &mut input)?;
     let mut out = [0u8; 4096];
     let length = respond(&input[..n], &mut out);
-    io::write_all(STDOUT_FILENO, &out[..length]);
+    rt.write_all(&out[..length])
 }

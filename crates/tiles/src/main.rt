@@ -1,6 +1,8 @@
 // Lists the tiles of a strip; run on document 01's example.
 #![tactic(auto)]
 
-fn main() {
-    listing::run();
+use std::io;
+
+fn main(rt: HostRuntime) -> io::Result<()> {
+    listing::run(&rt)
 }
