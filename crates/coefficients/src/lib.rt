@@ -1,4 +1,4 @@
-// The coefficients of one packet for C.
+// The coefficients of one packet, as C calls for them.
 #![tactic(auto)]
 
 ghost use Rattle.std.specs.Prelude.{◌≡◌, cond, length};
@@ -46,14 +46,7 @@ pub struct PacketCounts {
 
 // The coefficients of a packet of n records, those that are missing with them, into a band of their size, with the counts; all fields 0, with
 // the band as it was, where packet, sizes and band do not go together.
-#[unsafe(no_mangle)]
-pub extern "C" fn arw6_packet(
-    packet: &[u8],
-    m: usize,
-    cols: usize,
-    n: usize,
-    band: &mut [i32],
-) -> PacketCounts
+pub fn arw6_packet(packet: &[u8], m: usize, cols: usize, n: usize, band: &mut [i32]) -> PacketCounts
     ensures value { result ≡ answer_of (together packet.now m cols n (length band.old)) packet.now m cols }
     ensures band_after { band.new ≡ cond (together packet.now m cols n (length band.old)) (packet_values packet.now m cols n) band.old }
 {
