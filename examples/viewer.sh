@@ -6,7 +6,7 @@ lib=
 if [ -n "${ARW6_LIB_DIR:-}" ]; then lib=$(cd "$ARW6_LIB_DIR" && pwd); fi
 cd "$(dirname "$0")/.."
 if [ -z "$lib" ]; then
-    rt staticlib arw6
+    tools/staticlib arw6
     lib=target/staticlib
 fi
 out=target/viewer

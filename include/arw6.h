@@ -1,4 +1,4 @@
-/* Tiles of Sony's ARW6 strips. Link with the archive that `rt staticlib arw6` writes.
+/* Tiles of Sony's ARW6 strips. Link with target/staticlib/libarw6.a, which `tools/staticlib arw6` writes.
 
    Every function takes any bytes, sizes and lengths, keeps no pointer after it returns, allocates nothing and ends. A pointer must be valid
    for its length, also where that is 0, and the slices of one call must not overlap.

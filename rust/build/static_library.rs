@@ -12,6 +12,9 @@ const ROOT: &str = "..";
 /// What the libraries are made from.
 const SOURCES: [&str; 2] = ["../crates", "../crates.txt"];
 
+/// The folder in which `rt` keeps what it makes of a crate.
+const MADE: &str = "out";
+
 /// Links libraries of the folder that `ARW6_LIB_DIR` names, taken as they are; else the repository's
 /// own, which are built first where that is needed.
 pub fn link(names: &[&str]) {
@@ -62,13 +65,17 @@ fn newest_source() -> Result<SystemTime, String> {
     Ok(times.into_iter().max().expect("the sources are not none"))
 }
 
-/// The time of the last change to a file, or to a folder and what is below it. A folder's own time
-/// shows names that came or went.
+/// The time of the last change to a file, or to a folder and what is below it, but for what `rt`
+/// makes. A folder's own time shows names that came or went; a crate's also that `rt` was there, so
+/// it doesn't count.
 fn newest(path: &Path) -> io::Result<SystemTime> {
-    let mut time = modified(path)?;
+    let mut time = if path.join(MADE).is_dir() { SystemTime::UNIX_EPOCH } else { modified(path)? };
     if path.is_dir() {
         for entry in fs::read_dir(path)? {
-            time = time.max(newest(&entry?.path())?);
+            let entry = entry?;
+            if entry.file_name() != MADE {
+                time = time.max(newest(&entry.path())?);
+            }
         }
     }
     Ok(time)
@@ -88,7 +95,9 @@ fn refresh(name: &str, archive: &Path, sources: SystemTime) -> Result<(), String
         Err(_) => "missing",
     };
     let began = SystemTime::now().max(sources);
-    let built = Command::new("rt").args(["staticlib", name]).current_dir(ROOT).output();
+    let made = crate_of(name);
+    let folder = Path::new(ROOT).join("crates").join(&made);
+    let built = Command::new("rt").arg("lib").current_dir(&folder).output();
     let output = built.map_err(|e| {
         format!(
             "lib{name}.a is {state} and `rt` cannot be run ({e}): install the Rattle toolchain, or \
@@ -96,9 +105,23 @@ fn refresh(name: &str, archive: &Path, sources: SystemTime) -> Result<(), String
         )
     })?;
     if !output.status.success() {
-        return Err(format!("`rt staticlib {name}` failed: {}", last_line(&output)));
+        return Err(format!("`rt lib` of {made} failed: {}", last_line(&output)));
     }
-    set_modified(archive, began).map_err(|e| format!("{}: {e}", archive.display()))
+    copy(&folder.join(MADE).join(format!("lib{made}.a")), archive)
+        .and_then(|()| set_modified(archive, began))
+        .map_err(|e| format!("{}: {e}", archive.display()))
+}
+
+/// The crate that exports a library: one of its own name, or, where that is a library for other
+/// crates, the one beside it.
+fn crate_of(name: &str) -> String {
+    let beside = format!("{name}_c");
+    if Path::new(ROOT).join("crates").join(&beside).is_dir() { beside } else { name.to_string() }
+}
+
+fn copy(from: &Path, to: &Path) -> io::Result<()> {
+    to.parent().map_or(Ok(()), fs::create_dir_all)?;
+    fs::copy(from, to).map(|_| ())
 }
 
 fn set_modified(path: &Path, time: SystemTime) -> io::Result<()> {

@@ -21,14 +21,15 @@ fn link() {
 /// A repository with one crate, and an `rt` that writes the library and counts its runs.
 struct Repository(PathBuf);
 
-const RT: &str = "#!/bin/sh\necho run >> log\n[ \"$1\" = staticlib ] || exit 1\n[ -e broken ] && { echo not proved; exit 1; }\n\
-                  mkdir -p target/staticlib\n[ -e target/staticlib/lib$2.a ] || echo a > target/staticlib/lib$2.a\n";
+const RT: &str = "#!/bin/sh\nname=$(basename \"$PWD\")\necho run >> ../../log\n[ \"$1\" = lib ] || exit 1\n\
+                  [ -e ../../broken ] && { echo not proved; exit 1; }\n\
+                  mkdir -p out\n[ -e out/lib$name.a ] || echo a > out/lib$name.a\n";
 
 impl Repository {
     fn new(name: &str) -> Repository {
         let root = folder(name);
         for (path, text) in
-            [("crates/a/src/lib.rt", "a"), ("crates.txt", "a:"), ("rust/Cargo.toml", ""), ("bin/rt", RT)]
+            [("crates/arw6/src/lib.rt", "a"), ("crates.txt", "arw6:"), ("rust/Cargo.toml", ""), ("bin/rt", RT)]
         {
             file(&root, path, text.as_bytes());
         }
@@ -67,7 +68,7 @@ fn built_where_missing_or_older() {
     assert_eq!(repository.runs(), 1);
     repository.build(None);
     assert_eq!(repository.runs(), 1);
-    for (k, name) in ["crates/a/src/lib.rt", "crates.txt"].into_iter().enumerate() {
+    for (k, name) in ["crates/arw6/src/lib.rt", "crates.txt"].into_iter().enumerate() {
         repository.touch(name);
         repository.build(None);
         repository.build(None);
@@ -95,7 +96,7 @@ fn a_proof_that_fails_is_told() {
     let repository = Repository::new("library-broken");
     file(&repository.0, "broken", b"");
     let said = repository.build(None);
-    assert!(said.contains("cargo::error=`rt staticlib arw6` failed: not proved\n"), "{said}");
+    assert!(said.contains("cargo::error=`rt lib` of arw6 failed: not proved\n"), "{said}");
     fs::remove_file(repository.0.join("bin/rt")).unwrap();
     let said = repository.build(None);
     assert!(said.contains("cargo::error=libarw6.a is missing and `rt` cannot be run ("), "{said}");

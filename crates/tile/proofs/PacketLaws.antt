@@ -12,11 +12,11 @@ use Rattle.lists.proofs.Laid.{laid_same}
 use Rattle.format.specs.Coefficients.{record_values, coefs}
 use Rattle.format.specs.Counts.{group_count, broken_of, spent_of}
 use Rattle.format.specs.Used.{group_used, bits_of}
-use Rattle.format.specs.Packets.{sum, packet_start, packet_length, packet_of, kind, blocks, payload_at}
+use Rattle.format.specs.Packets.{sum, packet_of, kind, blocks, payload_at}
 use Rattle.format.specs.Sizes.{Colour, index, Group, number, packet_group, packet_index, group_in, colour_in, multiplier, components, columns}
 use Rattle.format.specs.Strip.{width}
-use Rattle.format.specs.Accepted.{Good, PacketOk}
-use Rattle.format.proofs.Numbered.{packet-range, number_in, index_in, packet-present, packets-sum, multiplier-most, columns-most}
+use Rattle.format.specs.Accepted.{Good}
+use Rattle.format.proofs.Numbered.{packets-sum, multiplier-most, columns-most}
 use Rattle.packets.proofs.TilePackets.{ok, packet-long, packet-kind}
 use Rattle.packets.proofs.TilePackets as tile_packets
 use Rattle.passes.specs.declared.Plan.{Plan}

@@ -11,7 +11,6 @@ use borrow.Author.Tests.{le-ltb}
 use mir.Syntax.{w32}
 use mir.Val.{SFits}
 use Rattle.format.specs.Sizes.{Colour, green, red, blue, plane_rows_of, plane_columns, work_length}
-use Rattle.format.specs.Strip.{width}
 use Rattle.format.specs.Refusals.{short_refusal, refusal}
 use Rattle.format.specs.Coefficients.{tile_sum}
 use Rattle.format.specs.Tile.{answer_of, plane_after, slice}

@@ -1,5 +1,5 @@
 -- What the contracts of `write_stream` cite, besides documents 01 and 02.
-use Rattle.std.specs.Prelude.{◌≡◌, cond, List, ◌++◌, ℕ, ◌+◌, ◌*◌, ◌%◌, ◌^◌, ◌≤◌, ◌<◌, ltb, ℤ, length, drop}
+use Rattle.std.specs.Prelude.{◌≡◌, cond, List, ◌++◌, ℕ, ◌+◌, ◌*◌, ◌%◌, ◌^◌, ◌≤◌, ◌<◌, ltb, ℤ, drop}
 use Rattle.format.specs.Coefficients.{Coefs}
 use Rattle.format.specs.Sizes.{Colour, green, red, blue, stripes, guarded, plane_rows_of, plane_columns}
 use Rattle.format.specs.Refusals.{◌▷◌, on}

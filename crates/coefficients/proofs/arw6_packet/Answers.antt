@@ -1,5 +1,4 @@
 -- `coefficients::arw6_packet` meets its contract. Assumes nothing.
-use borrow.Author.Rules.{rules}
 use mathlib.Core.Path.{sym, ◌∙◌}
 use Rattle.coefficients.proofs.TogetherLaws.{together-holds}
 use Rattle.coefficients.proofs.arw6_packet.Goals as goal

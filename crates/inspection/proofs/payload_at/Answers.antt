@@ -1,8 +1,7 @@
 -- `inspection::payload_at` meets its contract: each payload starts where the one before it ends. Assumes nothing.
 use mathlib.Core.Path.{◌≡◌, sym, ap, ◌∙◌}
-use Prim.Native.Nat.{◌+◌, ◌-◌, ◌*◌, ◌^◌, ◌≤◌}
+use Prim.Native.Nat.{◌+◌}
 use native.Mathlib.Omega.{arith}
-use borrow.Author.Rules.{rules}
 use Rattle.format.specs.Packets.{payload_at}
 use Rattle.format.proofs.RecordLaws.{payload-on}
 use Rattle.inspection.proofs.payload_at.Goals as goal

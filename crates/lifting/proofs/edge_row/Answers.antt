@@ -1,16 +1,14 @@
 -- `lifting::edge_row` meets its contract: the first x places hold the formula, the rest is as it was. Assumes nothing.
 use borrow.Author.Rules.{rules, sfits_of}
-use mathlib.Core.Path.{◌≡◌, refl, ap, ◌∙◌}
-use Prim.Native.Nat.{◌-◌, ◌≤◌}
+use mathlib.Core.Path.{refl, ap, ◌∙◌}
 use native.Mathlib.Omega.{arith}
-use lib.ListN.{length, length-set}
+use lib.ListN.{length-set}
 use mir.Syntax.{w32}
 use mir.Val.{SFits}
 use mir.Facts.{to_z-of_z}
 use Rattle.wrap32.specs.Arithmetic.{wrapping}
 use Rattle.wrap32.specs.Edge.{edge_detail}
 use Rattle.wrap32.proofs.Laws.{read_back, edge-fits}
-use Rattle.lists.specs.Lists.{fill}
 use Rattle.lists.proofs.Tab.{fill_start, fill_step, fill_done}
 use Rattle.lifting.specs.Lift.{at, edge_at}
 use Rattle.lifting.proofs.LiftLaws.{fill-ahead}

@@ -1,5 +1,5 @@
 -- `lifting::high_step` meets its contract: what was stored as bits is read back, and the two sums are the definition's. Assumes nothing.
-use borrow.Author.Rules.{rules, sfits_of}
+use borrow.Author.Rules.{sfits_of}
 use mir.Syntax.{w32}
 use mir.Val.{SFits}
 use mir.Facts.{to_z-of_z}

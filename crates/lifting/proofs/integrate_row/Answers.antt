@@ -1,17 +1,16 @@
 -- `lifting::integrate_row` meets its contract: acc is the sum of the first x, which hold the formula; the rest is as it was. Assumes nothing.
 use borrow.Author.Rules.{rules, sfits_of}
 use mathlib.Core.Path.{◌≡◌, refl, sym, ap, ◌∙◌}
-use Prim.Native.Nat.{ℕ, suc, ◌+◌, ◌-◌, ◌≤◌}
+use Prim.Native.Nat.{ℕ, suc, ◌+◌}
 use native.Mathlib.Omega.{arith}
 use lib.IntN.{ℤ}
-use lib.ListN.{length, length-set}
+use lib.ListN.{length-set}
 use mir.Syntax.{w16, w32}
-use mir.Val.{SFits, to_z, of_z}
+use mir.Val.{SFits, to_z}
 use mir.Facts.{to_z-of_z}
 use Rattle.wrap32.specs.Cut.{cut, add_w}
 use Rattle.wrap32.specs.Arithmetic.{wrapping}
 use Rattle.wrap32.proofs.Laws.{read_back}
-use Rattle.lists.specs.Lists.{fill}
 use Rattle.lists.proofs.Tab.{fill_start, fill_step, fill_done}
 use Rattle.format.specs.Synthesis.{sum_of}
 use Rattle.lifting.specs.Lift.{at, sum_at}

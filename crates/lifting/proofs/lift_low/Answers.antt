@@ -1,15 +1,13 @@
 -- `lifting::lift_low` meets its contract: the first x places hold the formula, the rest is as it was. Assumes nothing.
 use borrow.Author.Rules.{rules, sfits_of}
-use mathlib.Core.Path.{◌≡◌, refl}
-use Prim.Native.Nat.{◌-◌, ◌≤◌}
+use mathlib.Core.Path.{refl}
 use native.Mathlib.Omega.{arith}
-use lib.ListN.{length, length-set}
+use lib.ListN.{length-set}
 use mir.Syntax.{w32}
 use mir.Val.{SFits}
 use mir.Facts.{to_z-of_z}
 use Rattle.wrap32.proofs.Laws.{read_back}
 use Rattle.lifting.proofs.LiftLaws.{low_step-fits}
-use Rattle.lists.specs.Lists.{fill}
 use Rattle.lists.proofs.Tab.{fill_start, fill_step, fill_done}
 use Rattle.lifting.specs.Lift.{at, low_at}
 use Rattle.lifting.proofs.lift_low.Goals as goal

@@ -1,17 +1,16 @@
 -- `lifting::lift_row` meets its contract: the first 2 x places hold the formula, and cur is the even result at x. Assumes nothing.
-use mathlib.Core.Path.{◌≡◌, refl, sym, ap, ◌∙◌}
-use Prim.Native.Nat.{◌<◌, ◌+◌, ◌-◌, ◌*◌}
+use mathlib.Core.Path.{◌≡◌, refl, sym, ◌∙◌}
+use Prim.Native.Nat.{◌+◌, ◌*◌}
 use native.Mathlib.Omega.{arith}
 use lib.ListN.{length, length-set}
 use mir.Syntax.{w32}
-use mir.Val.{SFits, to_z, of_z}
+use mir.Val.{SFits, to_z}
 use mir.Facts.{to_z-of_z}
 use Rattle.wrap32.proofs.Laws.{read_back}
-use Rattle.lists.specs.Lists.{fill}
 use Rattle.lists.proofs.Tab.{fill_start, fill-pair, fill_done}
 use Rattle.lifting.specs.Lift.{at, even_at, lift_at}
 use Rattle.lifting.proofs.LiftLaws.{low_step-fits, high_step-fits, lift-even, even-next, odd-inner, odd-last}
-use borrow.Author.Rules.{rules, sfits_of}
+use borrow.Author.Rules.{sfits_of}
 use Rattle.lifting.proofs.lift_row.Goals as goal
 
 pub loop-x-init : goal.loop-x-init

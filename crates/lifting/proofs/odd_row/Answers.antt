@@ -1,6 +1,6 @@
 -- `lifting::odd_row` meets its contract: x places from `to` on hold the formula. Assumes nothing.
 use mathlib.Core.Path.{◌≡◌, refl, sym, ◌∙◌}
-use Prim.Native.Nat.{ℕ, ◌+◌, ◌-◌, ◌≤◌}
+use Prim.Native.Nat.{ℕ, ◌+◌}
 use native.Mathlib.Omega.{arith}
 use lib.IntN.{pos}
 use lib.ListN.{length, length-set}
@@ -8,7 +8,7 @@ use mir.Syntax.{w32}
 use mir.Val.{SFits}
 use mir.Facts.{to_z-of_z}
 use Rattle.wrap32.proofs.Laws.{read_back}
-use Rattle.lists.specs.Lists.{tab, put_at, part, Clear}
+use Rattle.lists.specs.Lists.{part, Clear}
 use Rattle.lists.proofs.Tab.{get_d_part}
 use Rattle.lists.proofs.Put.{put-start, put_step, get_or-clear}
 use Rattle.lifting.specs.Lift.{at, high_step, high_at}

@@ -1,19 +1,9 @@
 -- `lifting::odd_row` meets its contract: x places from `to` on hold the formula. Assumes nothing.
-use mathlib.Core.Path.{◌≡◌, refl, sym, ◌∙◌}
-use Prim.Native.Nat.{ℕ, ◌+◌, ◌-◌, ◌≤◌}
-use native.Mathlib.Omega.{arith}
-use lib.IntN.{pos}
-use lib.ListN.{length, length-set}
-use mir.Syntax.{w32}
-use mir.Val.{SFits}
-use mir.Facts.{to_z-of_z}
-use Rattle.wrap32.proofs.Laws.{read_back}
-use Rattle.lists.specs.Lists.{tab, put_at, part, Clear}
-use Rattle.lists.proofs.Tab.{get_d_part}
-use Rattle.lists.proofs.Put.{put-start, put_step, get_or-clear}
-use Rattle.lifting.specs.Lift.{at, high_step, high_at}
-use Rattle.lifting.proofs.LiftLaws.{high_step-fits}
-use borrow.Author.Rules.{rules, sfits_of}
+use mathlib.Core.Path.{◌≡◌}
+use Prim.Native.Nat.{◌-◌, ◌≤◌}
+use lib.ListN.{length}
+use Rattle.lists.specs.Lists.{tab, put_at, part}
+use Rattle.lifting.specs.Lift.{high_at}
 use Rattle.lifting.proofs.odd_row.Given as goal
 
 abbrev pub invariant-loop-x : goal.invariant-loop-x

@@ -1,6 +1,5 @@
 -- `records::before_first` meets its contract. Assumes nothing.
 use native.Mathlib.Omega.{arith}
-use borrow.Author.Rules.{rules}
 use Rattle.records.proofs.before_first.Goals as goal
 
 pub returns : goal.returns

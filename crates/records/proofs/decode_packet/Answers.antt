@@ -2,7 +2,6 @@
 use mathlib.Core.Path.{refl, ap, ◌∙◌}
 use Prim.Native.Nat.{◌+◌}
 use native.Mathlib.Omega.{arith}
-use borrow.Author.Rules.{rules}
 use Rattle.lists.proofs.Laid.{laid_same}
 use Rattle.records.specs.declared.Walked.{Walked}
 use Rattle.records.proofs.Packet.{none-few, packet-counted, packet-laid}

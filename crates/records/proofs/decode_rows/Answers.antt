@@ -1,6 +1,5 @@
 -- `decode_rows` meets its contract. Assumes nothing.
 use native.Mathlib.Omega.{arith}
-use borrow.Author.Rules.{rules}
 use borrow.Rule.Slice.PartMut.{same_len_mid}
 use mathlib.Core.Path.{◌≡◌, refl, sym, ap, ◌∙◌}
 use mathlib.Core.List.{List, ◌++◌}
@@ -10,12 +9,10 @@ use lib.IntN.{ℤ}
 use lib.ListN.{length, take, drop, length-take, length-drop}
 use Rattle.format.specs.Packets.{selector}
 use Rattle.format.specs.Reader.{Reader}
-use Rattle.format.specs.Coefficients.{rows_of}
 use Rattle.format.specs.Counts.{first_status}
 use Rattle.format.specs.Used.{row_used, rows_used}
 use Rattle.format.proofs.UsedLaws.{used-none, used-on, used-most, used-stopped}
-use Rattle.bits.specs.declared.BitReader.{BitReader}
-use Rattle.bits.specs.View.{as_reader, Ready}
+use Rattle.bits.specs.View.{as_reader}
 use Rattle.records.specs.declared.Selectors.{Selectors}
 use Rattle.records.specs.Counted.{counts_of}
 use Rattle.records.specs.Record.{selector_of}

@@ -1,25 +1,16 @@
 -- `decode_rows` meets its contract. Assumes nothing.
-use native.Mathlib.Omega.{arith}
-use borrow.Author.Rules.{rules}
-use borrow.Rule.Slice.PartMut.{same_len_mid}
-use mathlib.Core.Path.{◌≡◌, refl, sym, ap, ◌∙◌}
-use mathlib.Core.List.{List, ◌++◌}
-use Prim.Native.Nat.{ℕ, suc, ◌+◌, ◌-◌, ◌/◌, ◌^◌, ◌≤◌, ◌<◌, min}
-use native.Mathlib.Numerals.{add-one}
+use mathlib.Core.Path.{◌≡◌}
+use mathlib.Core.List.{List}
+use Prim.Native.Nat.{ℕ, ◌-◌, ◌≤◌}
 use lib.IntN.{ℤ}
-use lib.ListN.{length, take, drop, length-take, length-drop}
+use lib.ListN.{length}
 use Rattle.format.specs.Packets.{selector}
-use Rattle.format.specs.Reader.{Reader}
 use Rattle.format.specs.Coefficients.{rows_of}
 use Rattle.format.specs.Counts.{first_status}
-use Rattle.format.specs.Used.{row_used, rows_used}
-use Rattle.format.proofs.UsedLaws.{used-none, used-on, used-most, used-stopped}
+use Rattle.format.specs.Used.{rows_used}
 use Rattle.bits.specs.declared.BitReader.{BitReader}
 use Rattle.bits.specs.View.{as_reader, Ready}
-use Rattle.records.specs.declared.Selectors.{Selectors}
-use Rattle.records.specs.Counted.{counts_of}
-use Rattle.records.specs.Record.{selector_of}
-use Rattle.records.proofs.Walk.{Walk, selector-row, walk_first, walk-fits, walk-next, walk-done, walk-stops, first-start, first_on, first-set}
+use Rattle.records.proofs.Walk.{Walk}
 use Rattle.records.proofs.decode_rows.Given as goal
 
 -- the numbers of record i, all of them
@@ -27,7 +18,7 @@ abbrev pub all : List ℕ → ℕ → ℕ → ℕ → ℕ → BitReader → List
 all p i m cols count r = (rows_of p (selector p i) m cols count 0 (as_reader r)).values
 
 abbrev pub invariant-loop-k : goal.invariant-loop-k
-invariant-loop-k l = 
+invariant-loop-k l =
     Walk l.packet (selector l.packet l.i) l.m l.cols (as_reader l.initial.r) (all l.packet l.i l.m l.cols l.count l.initial.r) l.band l.at (l.count - l.k) l.k (as_reader l.r)
     × (length l.band ≡ length l.initial.band) × Ready l.packet l.r × (l.k ≤ l.count)
     × (l.r.status ≡ 0) × (first_status l.packet (selector l.packet l.i) l.m l.cols l.k (as_reader l.initial.r) ≡ 0)

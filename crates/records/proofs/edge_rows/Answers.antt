@@ -5,7 +5,6 @@ use native.Mathlib.Omega.{arith}
 use Rattle.lists.specs.Lists.{part}
 use Rattle.lists.proofs.Tab.{part-back, length_part, length-tab}
 use Rattle.lifting.specs.Lift.{edge_row}
-use borrow.Author.Rules.{rules}
 use Rattle.records.proofs.edge_rows.Goals as goal
 
 pub returns : goal.returns

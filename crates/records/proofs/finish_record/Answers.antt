@@ -1,6 +1,5 @@
 -- `records::finish_record` meets its contract. Assumes nothing.
 use mathlib.Core.Path.{refl}
-use borrow.Author.Rules.{rules}
 use Rattle.records.specs.Finished.{finished_by}
 use Rattle.records.proofs.finish_record.Goals.{Then-is_end}
 use Rattle.records.proofs.finish_record.Goals as goal

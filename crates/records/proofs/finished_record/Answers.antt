@@ -2,7 +2,6 @@
 use mathlib.Core.Path.{ap, ◌∙◌}
 use native.Mathlib.Nat.{mul-le-mul_right}
 use native.Mathlib.Omega.{arith}
-use borrow.Author.Rules.{rules}
 use Rattle.records.specs.Finished.{finished_by}
 use Rattle.records.proofs.finished_record.Goals.{After-fill_record-counts, After-finish_record}
 use Rattle.records.proofs.finished_record.Goals as goal

@@ -1,20 +1,13 @@
 -- `records::next_records` meets its contract: k records are laid, each into its slot. Assumes nothing.
 use mathlib.Core.Path.{◌≡◌, refl, ap, ◌∙◌}
-use mathlib.Core.List.{List}
-use Prim.Native.Nat.{ℕ, ◌+◌, ◌-◌, ◌*◌, ◌%◌, ◌^◌, ◌≤◌, ◌<◌}
+use Prim.Native.Nat.{◌+◌, ◌^◌, ◌<◌}
 use native.Mathlib.Omega.{arith}
-use borrow.Author.Rules.{rules}
-use lib.IntN.{ℤ}
-use lib.ListN.{length}
 use Rattle.lists.specs.Lists.{laid}
 use Rattle.lists.proofs.Laid.{laid-start, laid-step}
-use Rattle.format.specs.Packets.{kind}
 use Rattle.records.specs.Counted.{Few}
-use Rattle.records.specs.Record.{walked_by, values_from, values_by}
+use Rattle.records.specs.Record.{walked_by, values_from}
 use Rattle.records.specs.Finished.{finished_by}
 use Rattle.records.specs.declared.Walked.{Walked}
-use Rattle.records.specs.declared.Held.{Held}
-use Rattle.records.specs.declared.Finish.{Finish}
 use Rattle.records.proofs.Packet.{walked_none, walked_step, walked_near}
 use Rattle.records.proofs.next_records.Invariants.{done, placed}
 use Rattle.records.proofs.next_records.Goals as goal

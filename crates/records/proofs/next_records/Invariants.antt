@@ -1,21 +1,16 @@
 -- `records::next_records` meets its contract: k records are laid, each into its slot. Assumes nothing.
-use mathlib.Core.Path.{◌≡◌, refl, ap, ◌∙◌}
+use mathlib.Core.Path.{◌≡◌}
 use mathlib.Core.List.{List}
-use Prim.Native.Nat.{ℕ, ◌+◌, ◌-◌, ◌*◌, ◌%◌, ◌^◌, ◌≤◌, ◌<◌}
-use native.Mathlib.Omega.{arith}
-use borrow.Author.Rules.{rules}
+use Prim.Native.Nat.{ℕ, ◌+◌, ◌-◌, ◌*◌, ◌%◌, ◌≤◌}
 use lib.IntN.{ℤ}
 use lib.ListN.{length}
 use Rattle.lists.specs.Lists.{laid}
-use Rattle.lists.proofs.Laid.{laid-start, laid-step}
 use Rattle.format.specs.Packets.{kind}
-use Rattle.records.specs.Counted.{Few}
-use Rattle.records.specs.Record.{walked_by, values_from, values_by}
+use Rattle.records.specs.Record.{walked_by, values_by}
 use Rattle.records.specs.Finished.{finished_by}
 use Rattle.records.specs.declared.Walked.{Walked}
 use Rattle.records.specs.declared.Held.{Held}
 use Rattle.records.specs.declared.Finish.{Finish}
-use Rattle.records.proofs.Packet.{walked_none, walked_step, walked_near}
 use Rattle.records.proofs.next_records.Given as goal
 
 -- where record from + k is put, and what is put there
@@ -26,7 +21,7 @@ abbrev pub done : List ℕ → ℕ → Walked → Held → Finish → ℕ → Li
 done p from v h f k = finished_by f h.cols (from + k) (values_by p h.m h.cols from v k)
 
 abbrev pub invariant-loop-k : goal.invariant-loop-k
-invariant-loop-k l = 
+invariant-loop-k l =
     (l.k ≤ l.count) × (length l.work ≡ length l.initial.work) × (l.r ≡ walked_by l.packet l.h.m l.h.cols l.from l.initial.r l.k)
     × (l.work ≡ laid (placed l.packet l.from l.h) (done l.packet l.from l.initial.r l.h l.f) l.initial.work l.k)
 

@@ -1,5 +1,4 @@
 -- `selector_of` meets its contract. Assumes nothing.
-use borrow.Author.Rules.{rules}
 use borrow.Author.Tests.{lt-ltb, le-ltb}
 use Rattle.records.proofs.selector_of.Goals as goal
 

@@ -1,5 +1,4 @@
 -- `tile::decode_accepted` meets its contract. Assumes nothing.
-use borrow.Author.Rules.{rules}
 use mathlib.Core.Path.{refl, ap, ◌∙◌}
 use Prim.Native.Nat.{◌-◌, ◌<◌, ◌^◌}
 use native.Mathlib.Omega.{arith}

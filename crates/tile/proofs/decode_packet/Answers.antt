@@ -2,7 +2,6 @@
 use native.Mathlib.Omega.{arith}
 use Rattle.packets.proofs.TilePackets.{packet-there, packet-long}
 use Rattle.tile.proofs.PacketLaws.{records-ask, records-laid, records-counted}
-use borrow.Author.Rules.{rules}
 use Rattle.tile.proofs.decode_packet.Goals.{After-before_first-v, After-finishing-f, After-group_of-g, After-held-h, After-index_of-k, After-packet-q}
 use Rattle.tile.proofs.decode_packet.Goals as goal
 

@@ -1,13 +1,10 @@
 -- `tile::decode_planes` meets its contract. Assumes nothing.
 use mathlib.Core.Path.{◌≡◌, refl, ap, ◌∙◌}
-use Prim.Native.Nat.{◌+◌, ◌-◌, ◌≤◌, ◌<◌}
+use Prim.Native.Nat.{◌+◌, ◌<◌}
 use native.Mathlib.Omega.{arith}
-use lib.ListN.{length}
 use Rattle.format.specs.Coefficients.{zeros}
-use Rattle.tile.specs.Going.{Going}
 use Rattle.tile.proofs.GoingLaws.{going_start, going-laid}
 use Rattle.tile.proofs.PacketLaws.{counts_by, counts_start, counts_step, counts_all, packet-below, counts-below}
-use borrow.Author.Rules.{rules}
 use Rattle.tile.proofs.decode_planes.Goals.{After-decode_packet, After-loop-p, After-packet_end, After-plus-counts, At-loop-p, In-loop-p}
 use Rattle.tile.proofs.decode_planes.Goals as goal
 

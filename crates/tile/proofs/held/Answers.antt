@@ -1,7 +1,6 @@
 -- `tile::held` meets its contract. Assumes nothing.
 use mathlib.Core.Path.{refl}
 use native.Mathlib.Omega.{arith}
-use borrow.Author.Rules.{rules}
 use Rattle.tile.proofs.held.Goals as goal
 
 pub returns : goal.returns

@@ -8,7 +8,6 @@ use Rattle.format.proofs.Exact.{planes-least}
 use Rattle.fields.proofs.SizeLaws.{tall-some}
 use Rattle.tile.proofs.GoingLaws.{index-records, averages-end, red-end, blue-end, near-green, green-end, going_on}
 use Rattle.tile.proofs.LentLaws.{ring-room, row-units}
-use borrow.Author.Rules.{rules}
 use Rattle.tile.proofs.packet_end.Goals.{After-averages, After-colour_plane, After-colour_plane-in-11, After-final_rows, After-rows_of, After-unit-u, In-11, In-12, In-3, In-7}
 use Rattle.tile.proofs.packet_end.Goals as goal
 

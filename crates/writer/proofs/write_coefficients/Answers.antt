@@ -1,7 +1,6 @@
 -- `writer::write_coefficients` meets its contract. Assumes nothing.
 use mathlib.Core.Path.{◌≡◌, sym, ◌∙◌}
 use native.Mathlib.Omega.{arith}
-use borrow.Author.Rules.{rules}
 use Prim.Native.Nat.{ℕ, ◌-◌}
 use lib.ListN.{length, take, length-take}
 use Rattle.format.specs.Coefficients.{Coefs}

@@ -1,5 +1,4 @@
 -- `records::Counts::one` meets its contract. Assumes nothing.
-use borrow.Author.Rules.{rules}
 use Rattle.records.proofs.Counts.one.Goals as goal
 
 pub returns : goal.returns
