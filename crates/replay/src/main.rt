@@ -14,7 +14,8 @@ mod written;
 ghost use Rattle.std.specs.Prelude.{◌≡◌, ◌+◌, ◌*◌, ◌≤◌, ◌<◌, ◌^◌, length};
 ghost use Rattle.replay.specs.Tally.{total};
 
-use libc::STDOUT_FILENO;
+use std::io;
+use std::io::Read;
 use vectors::{next_word, read, word};
 
 // The kinds, and 0 for a case that is of none.
@@ -35,10 +36,10 @@ const WRITTEN: usize = 6;
 const INSPECTED: usize = 7;
 
 // The kind of the next case; none where the input ends, and for a number that no kind has.
-fn next_kind() -> usize
+fn next_kind<R: Read>(source: &mut R) -> usize
     ensures { result < 8 }
 {
-    let kind = next_word();
+    let kind = next_word(source);
     if INSPECTED < kind { NONE } else { kind }
 }
 
@@ -88,15 +89,21 @@ fn right_answer(kind: usize, head: &[u8], input: &[u8], answer: &[u8]) -> bool
 }
 
 // Reads the words of a case; false where the input ends before.
-fn read_head(kind: usize, head: &mut [u8]) -> bool
+fn read_head<R: Read>(source: &mut R, kind: usize, head: &mut [u8]) -> bool
     requires { 44 ≤ length head.old }
 {
     let n = head_length(kind);
-    read(&mut head[0..n])
+    read(source, &mut head[0..n])
 }
 
 // Reads the input and the answer of a case: whether both are whole, and the one comes out as the other says.
-fn read_case(kind: usize, head: &[u8], input: &mut [u8], answer: &mut [u8]) -> bool
+fn read_case<R: Read>(
+    source: &mut R,
+    kind: usize,
+    head: &[u8],
+    input: &mut [u8],
+    answer: &mut [u8],
+) -> bool
     requires { 44 ≤ length head.now }
 {
     let n = word(head, 0);
@@ -107,32 +114,32 @@ fn read_case(kind: usize, head: &[u8], input: &mut [u8], answer: &mut [u8]) -> b
     if answer.len() < end {
         return false;
     }
-    if !read(&mut input[0..n]) {
+    if !read(source, &mut input[0..n]) {
         return false;
     }
-    if !read(&mut answer[0..end]) {
+    if !read(source, &mut answer[0..end]) {
         return false;
     }
     right_answer(kind, head, &input[0..n], &answer[0..end])
 }
 
 // Whether the next case, which is of that kind, comes out as it should. There is room for an input of one byte more than `tiles` takes.
-fn right_case(kind: usize) -> bool {
+fn right_case<R: Read>(source: &mut R, kind: usize) -> bool {
     let mut head = [0u8; 44];
     let mut input = [0u8; 65537];
     let mut answer = [0u8; 8192];
-    if !read_head(kind, &mut head) {
+    if !read_head(source, kind, &mut head) {
         return false;
     }
-    read_case(kind, &head, &mut input, &mut answer)
+    read_case(source, kind, &head, &mut input, &mut answer)
 }
 
 // The next case's place in the tally: 2k where it comes out as it should, and 2k + 1 where not, for kind k.
-fn next_case() -> usize
+fn next_case<R: Read>(source: &mut R) -> usize
     ensures { result < 16 }
 {
-    let kind = next_kind();
-    if right_case(kind) {
+    let kind = next_kind(source);
+    if right_case(source, kind) {
         2 * kind
     } else {
         2 * kind + 1
@@ -140,14 +147,14 @@ fn next_case() -> usize
 }
 
 // The tally of the cases that follow: each counts once.
-fn run(cases: usize) -> [usize; 16]
+fn run<R: Read>(source: &mut R, cases: usize) -> [usize; 16]
     requires { cases < 2 ^ 32 }
     ensures { (length result ≡ 16) × (total result ≡ cases) }
 {
     let mut tally = [0usize; 16];
     let mut i = 0;
     while i < cases {
-        let at = next_case();
+        let at = next_case(source);
         tally[at] = tally[at] + 1;
         i += 1;
     }
@@ -155,25 +162,25 @@ fn run(cases: usize) -> [usize; 16]
 }
 
 // Prints how many cases of a kind came out as they should, and how many did not.
-fn report(name: &[u8], kind: usize, tally: &[usize; 16])
+fn report(rt: &impl Print, name: &str, kind: usize, tally: &[usize; 16]) -> io::Result<()>
     requires { kind < 8 }
 {
-    io::write_all(STDOUT_FILENO, name);
-    io::print_decimal(STDOUT_FILENO, tally[2 * kind] as u64);
-    io::write_all(STDOUT_FILENO, b" as they should be, ");
-    io::print_decimal(STDOUT_FILENO, tally[2 * kind + 1] as u64);
-    io::write_all(STDOUT_FILENO, b" not\n");
+    let right = tally[2 * kind];
+    let wrong = tally[2 * kind + 1];
+    println!(rt; "{name}: {right} as they should be, {wrong} not")
 }
 
 // As many cases as the first word says.
-fn main() {
-    let tally = run(next_word());
-    report(b"strips: ", STRIPS, &tally);
-    report(b"refusals: ", REFUSALS, &tally);
-    report(b"records: ", RECORDS, &tally);
-    report(b"tiles: ", TILES, &tally);
-    report(b"listings: ", LISTINGS, &tally);
-    report(b"written: ", WRITTEN, &tally);
-    report(b"inspected: ", INSPECTED, &tally);
-    report(b"of no kind: ", NONE, &tally);
+fn main(rt: HostRuntime) -> io::Result<()> {
+    let mut source = rt.reader();
+    let cases = next_word(&mut source);
+    let tally = run(&mut source, cases);
+    report(&rt, "strips", STRIPS, &tally)?;
+    report(&rt, "refusals", REFUSALS, &tally)?;
+    report(&rt, "records", RECORDS, &tally)?;
+    report(&rt, "tiles", TILES, &tally)?;
+    report(&rt, "listings", LISTINGS, &tally)?;
+    report(&rt, "written", WRITTEN, &tally)?;
+    report(&rt, "inspected", INSPECTED, &tally)?;
+    report(&rt, "of no kind", NONE, &tally)
 }

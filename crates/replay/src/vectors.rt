@@ -1,10 +1,11 @@
 // What the kinds of cases share: words and numbers of the input, and the comparison with lists of numbers.
-ghost use Rattle.std.specs.Prelude.{◌≡◌, ◌+◌, ◌*◌, ◌<◌, ◌≤◌, ◌%◌, ◌^◌, length};
+ghost use Rattle.std.specs.Prelude.{◌≡◌, ◌+◌, ◌*◌, ◌<◌, ◌≤◌, ◌%◌, ◌^◌, length, true};
+ghost use Rattle.std.specs.Io.KnownBytes.{Consumes};
 ghost use Rattle.lists.specs.Lists.{tab};
 ghost use Rattle.format.specs.Bits.{little32};
 ghost use Rattle.replay.specs.Numbers.{Tells, word_at, always};
 
-use libc::STDIN_FILENO;
+use std::io::Read;
 
 // What the lent slices hold before a call, and where nothing is to be written also after it.
 pub const PATTERN: i32 = 77;
@@ -97,18 +98,19 @@ pub fn right_work(work: &[i32], n: usize) -> bool {
     all(&work[n..], PATTERN)
 }
 
-// Reads as many bytes as b has; false where the input ends before.
-pub fn read(b: &mut [u8]) -> bool {
-    let got = io::read_full(STDIN_FILENO, b);
-    got == b.len()
+// Reads as many bytes as b has, however the input is cut into reads; false where it ends before, or a read fails.
+pub fn read<R: Read>(source: &mut R, b: &mut [u8]) -> bool
+    ensures { result ≡ true → Consumes (R.remaining source.old) (R.remaining source.new) b.new }
+{
+    source.read_exact(b).is_ok()
 }
 
 // The next word of the input; 0 where it ends before.
-pub fn next_word() -> usize
+pub fn next_word<R: Read>(source: &mut R) -> usize
     ensures { result < 2 ^ 32 }
 {
     let mut bytes = [0u8; 4];
-    if !read(&mut bytes) {
+    if !read(source, &mut bytes) {
         return 0;
     }
     word(&bytes, 0)
