@@ -4,7 +4,7 @@
 
 mod inspected;
 mod listings;
-mod records;
+mod packet_records;
 mod refusals;
 mod strips;
 mod tiles;
@@ -63,7 +63,7 @@ fn answer_length(kind: usize, head: &[u8]) -> usize
 {
     match kind {
         STRIPS => strips::answer_length(head),
-        RECORDS => records::answer_length(head),
+        RECORDS => packet_records::answer_length(head),
         TILES => tiles::answer_length(head),
         LISTINGS => listings::answer_length(head),
         WRITTEN => written::answer_length(head),
@@ -79,7 +79,7 @@ fn right_answer(kind: usize, head: &[u8], input: &[u8], answer: &[u8]) -> bool
     match kind {
         STRIPS => strips::right_case(head, input, answer),
         REFUSALS => refusals::right_case(head, input),
-        RECORDS => records::right_case(head, input, answer),
+        RECORDS => packet_records::right_case(head, input, answer),
         TILES => tiles::right_case(head, input, answer),
         LISTINGS => listings::right_case(input, answer),
         WRITTEN => written::right_case(head, input, answer),

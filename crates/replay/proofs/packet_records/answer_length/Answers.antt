@@ -2,8 +2,8 @@
 use Prim.Native.Nat.{ℕ, ◌*◌, ◌≤◌}
 use native.Mathlib.Nat.{mul-le-mul_right}
 use native.Mathlib.Omega.{arith}
-use Rattle.replay.proofs.records.answer_length.Goals.{After-small-3, After-small-4}
-use Rattle.replay.proofs.records.answer_length.Goals as goal
+use Rattle.replay.proofs.packet_records.answer_length.Goals.{After-small-3, After-small-4}
+use Rattle.replay.proofs.packet_records.answer_length.Goals as goal
 
 two : (c : After-small-3) → c.small-2.result * c.small-3.result ≤ 256 * c.small-3.result
 two c = mul-le-mul_right c.small-3.result (omega (arith, c.small-2.ensures))
