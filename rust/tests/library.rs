@@ -80,6 +80,16 @@ fn built_where_missing_or_older() {
 }
 
 #[test]
+fn taken_from_the_crate_beside() {
+    let repository = Repository::new("library-beside");
+    file(&repository.0, "crates/arw6_c/src/lib.rt", b"");
+    assert!(repository.build(None).contains("cargo::rustc-link-lib=static=arw6\n"));
+    assert!(repository.0.join("crates/arw6_c/out/libarw6_c.a").is_file());
+    assert!(repository.0.join("target/staticlib/libarw6.a").is_file());
+    assert!(!repository.0.join("crates/arw6/out").exists());
+}
+
+#[test]
 fn not_built_where_a_folder_is_named() {
     let repository = Repository::new("library-named");
     let said = repository.build(Some("nowhere"));
