@@ -27,7 +27,7 @@ fn power(n: u64) -> u64
 // The zeros before the first one among `limit` bits from a place on, by words of 57 bits, of which the first is in hand.
 fn zeros_ahead(packet: &[u8], place: u64, cache: u64, limit: u64) -> u64
     requires in_bounds { (8 ≤ length packet.now) × (place + limit < 2 ^ 40) }
-    requires cache_value { cache / 2 ^ 7 ≡ bits_at packet.now place 57 }
+    requires loaded { cache / 2 ^ 7 ≡ bits_at packet.now place 57 }
     ensures { (result ≡ zeros_at packet.now place limit) × (result ≤ limit) }
 {
     let mut word = cache;
@@ -129,7 +129,7 @@ impl BitReader {
     // A reader at a place, with a word of the bits from there.
     fn at(packet: &[u8], place: u64, remaining: u64, status: u64) -> BitReader
         requires { (8 ≤ length packet.now) × (place + remaining < 2 ^ 40) }
-        ensures result_value { as_reader result ≡ record { place = place; remaining = remaining; status = status } }
+        ensures value { as_reader result ≡ record { place = place; remaining = remaining; status = status } }
         ensures ready { Ready packet.now result }
     {
         BitReader {
@@ -143,7 +143,7 @@ impl BitReader {
     // A reader at a payload, with the allowance of its byte length.
     pub fn new(packet: &[u8], offset: u64, bytes: u64) -> BitReader
         requires { (8 ≤ length packet.now) × (offset < 2 ^ 36) × (bytes < 2 ^ 36) }
-        ensures result_value { as_reader result ≡ start_of offset bytes }
+        ensures value { as_reader result ≡ start_of offset bytes }
         ensures ready { Ready packet.now result }
     {
         BitReader::at(packet, offset * 8, allowance(bytes), 0)
@@ -152,9 +152,9 @@ impl BitReader {
     // Past n bits.
     pub fn skip(self, packet: &[u8], n: u64) -> BitReader
         requires ready { Ready packet.now self }
-        requires n_le_remaining { n ≤ self.remaining }
-        ensures result_value { as_reader result ≡ skipped (as_reader self) n }
-        ensures ready_2 { Ready packet.now result }
+        requires left { n ≤ self.remaining }
+        ensures value { as_reader result ≡ skipped (as_reader self) n }
+        ensures still_ready { Ready packet.now result }
     {
         BitReader::at(packet, self.place + n, self.remaining - n, self.status)
     }
@@ -162,7 +162,7 @@ impl BitReader {
     // At the end of the allowance.
     fn spend(self, packet: &[u8]) -> BitReader
         requires { Ready packet.now self }
-        ensures result_value { as_reader result ≡ spent (as_reader self) }
+        ensures value { as_reader result ≡ spent (as_reader self) }
         ensures ready { Ready packet.now result }
     {
         BitReader::at(packet, self.place + self.remaining, 0, 2)
@@ -178,8 +178,8 @@ impl BitReader {
     // n bits. Short, so that the compiler makes it part of each loop that reads.
     pub fn read(self, packet: &[u8], n: u64) -> Taken
         requires ready { Ready packet.now self }
-        requires n_bound { n ≤ 57 }
-        ensures result_value { as_taken result ≡ read_of packet.now (as_reader self) n }
+        requires few_bits { n ≤ 57 }
+        ensures value { as_taken result ≡ read_of packet.now (as_reader self) n }
         ensures ready_below { ReadyBelow packet.now result (2 ^ n) }
     {
         let k = least(n, self.remaining);
@@ -193,7 +193,7 @@ impl BitReader {
     // The next n bits, which are not taken.
     pub fn ahead(self, packet: &[u8], n: u64) -> u64
         requires ready { Ready packet.now self }
-        requires n_bound { n ≤ 57 }
+        requires few_bits { n ≤ 57 }
         ensures { result ≡ bits_at packet.now self.place n }
     {
         top(self.cache, n)
@@ -202,8 +202,8 @@ impl BitReader {
     // n bits, four times. One word holds them all where they are short.
     pub fn read4(self, packet: &[u8], n: u64) -> Four
         requires ready { Ready packet.now self }
-        requires n_bound { n ≤ 57 }
-        ensures result_value { as_four result ≡ four_of packet.now (as_reader self) n }
+        requires few_bits { n ≤ 57 }
+        ensures value { as_four result ≡ four_of packet.now (as_reader self) n }
         ensures ready_below_four { ReadyBelowFour packet.now result (2 ^ n) }
     {
         if n < 15 {
@@ -238,7 +238,7 @@ impl BitReader {
     // The zeros before the next one, and one.
     pub fn unary(self, packet: &[u8]) -> Taken
         requires { Ready packet.now self }
-        ensures result_value { as_taken result ≡ unary_of packet.now (as_reader self) }
+        ensures value { as_taken result ≡ unary_of packet.now (as_reader self) }
         ensures ready_below { ReadyBelow packet.now result (self.remaining + 2) }
     {
         let left = self.remaining;
@@ -258,7 +258,7 @@ impl BitReader {
     // The zeros before the first one among k bits, and the reader after that one; k where there is none.
     fn find(self, packet: &[u8], k: u64) -> Taken
         requires { Ready packet.now self }
-        ensures result_value { as_taken result ≡ find_of packet.now (as_reader self) k }
+        ensures value { as_taken result ≡ find_of packet.now (as_reader self) k }
         ensures ready_below { ReadyBelow packet.now result (k + 1) }
     {
         let left = self.remaining;
@@ -286,8 +286,8 @@ impl BitReader {
     pub fn width_update(self, packet: &[u8], width: u64) -> Taken
         requires ready { Ready packet.now self }
         requires width_bound { width < 2 ^ 32 }
-        ensures result_value { as_taken result ≡ update_of packet.now (as_reader self) width }
-        ensures ready_2 { Ready packet.now result.reader }
+        ensures value { as_taken result ≡ update_of packet.now (as_reader self) width }
+        ensures still_ready { Ready packet.now result.reader }
     {
         if self.status != 0 {
             return self.width_first(packet, width);
@@ -306,7 +306,7 @@ impl BitReader {
     // part of that caller's loop.
     pub fn width_opening(self, packet: &[u8]) -> Taken
         requires { Ready packet.now self }
-        ensures result_value { as_taken result ≡ update_of packet.now (as_reader self) 0 }
+        ensures value { as_taken result ≡ update_of packet.now (as_reader self) 0 }
         ensures ready { Ready packet.now result.reader }
     {
         if self.status != 0 {
@@ -326,8 +326,8 @@ impl BitReader {
     fn width_first(self, packet: &[u8], width: u64) -> Taken
         requires ready { Ready packet.now self }
         requires width_bound { width < 2 ^ 32 }
-        ensures result_value { as_taken result ≡ update_of packet.now (as_reader self) width }
-        ensures ready_2 { Ready packet.now result.reader }
+        ensures value { as_taken result ≡ update_of packet.now (as_reader self) width }
+        ensures still_ready { Ready packet.now result.reader }
     {
         let a = self.read(packet, 1);
         let first = a.reader;
@@ -350,8 +350,8 @@ impl BitReader {
     fn width_second(self, packet: &[u8], width: u64) -> Taken
         requires ready { Ready packet.now self }
         requires width_bound { width < 2 ^ 32 }
-        ensures result_value { as_taken result ≡ update_second packet.now width (read_of packet.now (as_reader self) 1) }
-        ensures ready_2 { Ready packet.now result.reader }
+        ensures value { as_taken result ≡ update_second packet.now width (read_of packet.now (as_reader self) 1) }
+        ensures still_ready { Ready packet.now result.reader }
     {
         let b = self.read(packet, 1);
         let second = b.reader;
@@ -381,9 +381,9 @@ impl BitReader {
     pub fn zero_run(self, packet: &[u8], groups: u64) -> Taken
         requires ready { Ready packet.now self }
         requires groups_bound { groups < 2 ^ 32 }
-        ensures result_value { as_taken result ≡ run_of packet.now (as_reader self) groups }
+        ensures value { as_taken result ≡ run_of packet.now (as_reader self) groups }
         ensures ready_below { ReadyBelow packet.now result (groups + 1) }
-        ensures value_nonzero { 0 < groups → 0 < result.value }
+        ensures some { 0 < groups → 0 < result.value }
     {
         if groups <= 1 {
             return Taken {

@@ -64,8 +64,8 @@ impl BitWriter {
     // The first eight bits that are held go out.
     fn out_byte(self, out: &mut [u8]) -> BitWriter
         requires { (8 ≤ self.held) × (self.held < 64) × (self.cache < 2 ^ self.held) × (self.place < length out.old) }
-        ensures place_value { (result.place ≡ self.place + 1) × (result.held + 8 ≡ self.held) × (result.cache < 2 ^ result.held) × (length out.new ≡ length out.old) }
-        ensures by_index { (old b : List ℕ) → Wrote old out.old self b → Wrote old out.new result b }
+        ensures place { (result.place ≡ self.place + 1) × (result.held + 8 ≡ self.held) × (result.cache < 2 ^ result.held) × (length out.new ≡ length out.old) }
+        ensures wrote { (old b : List ℕ) → Wrote old out.old self b → Wrote old out.new result b }
     {
         let at = self.place;
         let rest = self.held - 8;
@@ -97,7 +97,7 @@ impl BitWriter {
     pub fn finish(self, out: &mut [u8]) -> BitWriter
         requires { Room out.old self 0 }
         ensures appends { Appends out.old out.new self result (zero_bits ((8 - self.held) % 8)) }
-        ensures held_value { result.held ≡ 0 }
+        ensures none_held { result.held ≡ 0 }
     {
         self.put(out, (8 - self.held) % 8, 0)
     }
@@ -113,8 +113,8 @@ pub struct Code {
 // The width update from a to b.
 fn update_code(a: u64, b: u64) -> Code
     requires { (a ≤ 32) × (b ≤ 32) }
-    ensures v_value { number_bits result.n result.v ≡ update_bits a b }
-    ensures n_bound { (result.n ≤ 40) × (result.v < 2 ^ result.n) }
+    ensures bits { number_bits result.n result.v ≡ update_bits a b }
+    ensures size { (result.n ≤ 40) × (result.v < 2 ^ result.n) }
 {
     if a == b {
         return Code { n: 1, v: 0 };
@@ -194,8 +194,8 @@ fn zero_groups(row: &[i32], j: usize, g: usize) -> usize
 // A zero run of k groups, where g are left. Up to its end a run that goes on is the number k itself, after as many zeros.
 fn run_code(g: u64, k: u64) -> Code
     requires { (1 ≤ k) × (k ≤ g) × (g < 2 ^ 16) }
-    ensures v_value { number_bits result.n result.v ≡ run_bits g k }
-    ensures n_bound { (result.n ≤ 32) × (result.v < 2 ^ result.n) }
+    ensures bits { number_bits result.n result.v ≡ run_bits g k }
+    ensures size { (result.n ≤ 32) × (result.v < 2 ^ result.n) }
 {
     if k == g {
         return Code {
@@ -258,8 +258,8 @@ fn values(b: BitWriter, out: &mut [u8], row: &[i32], j: usize, w: u64) -> BitWri
 
 // The sign bit of z: none of 0, 1 of what is below.
 fn sign_of(z: i32) -> Code
-    ensures v_value { number_bits result.n result.v ≡ sign_bits z }
-    ensures n_bound { (result.n ≤ 1) × (result.v < 2 ^ result.n) }
+    ensures bits { number_bits result.n result.v ≡ sign_bits z }
+    ensures size { (result.n ≤ 1) × (result.v < 2 ^ result.n) }
 {
     if z < 0 {
         return Code { n: 1, v: 1 };
@@ -272,8 +272,8 @@ fn sign_of(z: i32) -> Code
 
 // The sign bit of the number at x of a row.
 fn sign_at(row: &[i32], x: usize) -> Code
-    ensures v_value { number_bits result.n result.v ≡ sign_bits (line row.now x) }
-    ensures n_bound { (result.n ≤ 1) × (result.v < 2 ^ result.n) }
+    ensures bits { number_bits result.n result.v ≡ sign_bits (line row.now x) }
+    ensures size { (result.n ≤ 1) × (result.v < 2 ^ result.n) }
 {
     if x < row.len() {
         return sign_of(row[x]);
@@ -284,8 +284,8 @@ fn sign_at(row: &[i32], x: usize) -> Code
 // One code behind another.
 pub fn both(a: Code, b: Code) -> Code
     requires { (a.n + b.n ≤ 56) × (a.v < 2 ^ a.n) × (b.v < 2 ^ b.n) }
-    ensures v_value { number_bits result.n result.v ≡ number_bits a.n a.v ++ number_bits b.n b.v }
-    ensures n_value { (result.n ≡ a.n + b.n) × (result.v < 2 ^ result.n) }
+    ensures bits { number_bits result.n result.v ≡ number_bits a.n a.v ++ number_bits b.n b.v }
+    ensures size { (result.n ≡ a.n + b.n) × (result.v < 2 ^ result.n) }
 {
     Code {
         n: a.n + b.n,
@@ -296,8 +296,8 @@ pub fn both(a: Code, b: Code) -> Code
 // The signs of group j.
 fn signs(row: &[i32], j: usize) -> Code
     requires { j < 2 ^ 32 }
-    ensures v_value { number_bits result.n result.v ≡ signs_bits (line row.now) j }
-    ensures n_bound { (result.n ≤ 4) × (result.v < 2 ^ result.n) }
+    ensures bits { number_bits result.n result.v ≡ signs_bits (line row.now) j }
+    ensures size { (result.n ≤ 4) × (result.v < 2 ^ result.n) }
 {
     let x = 4 * j;
     let c = both(sign_at(row, x + 2), sign_at(row, x + 3));
@@ -307,8 +307,8 @@ fn signs(row: &[i32], j: usize) -> Code
 // A run of k groups, of g, and the width of the next one in unary.
 fn run_tail(g: u64, k: u64, next: u64) -> Code
     requires { (1 ≤ k) × (k ≤ g) × (g < 2 ^ 16) × (next ≤ 19) × (k < g → 1 ≤ next) }
-    ensures v_value { number_bits result.n result.v ≡ run_tail g k next }
-    ensures n_bound { (result.n ≤ 56) × (result.v < 2 ^ result.n) }
+    ensures bits { number_bits result.n result.v ≡ run_tail g k next }
+    ensures size { (result.n ≤ 56) × (result.v < 2 ^ result.n) }
 {
     let c = run_code(g, k);
     if k == g {
@@ -320,8 +320,8 @@ fn run_tail(g: u64, k: u64, next: u64) -> Code
 // Behind the values of group j, where g are left: the update to the next width, and the signs.
 fn group_tail(row: &[i32], j: usize, g: usize, w: u64, next: u64) -> Code
     requires { (j < 2 ^ 32) × (w ≤ 19) × (next ≤ 19) × (w ≡ group_width (line row.now) j) × (next ≡ group_width (line row.now) (j + 1)) }
-    ensures v_value { number_bits result.n result.v ≡ next_bits (line row.now) j g ++ signs_bits (line row.now) j }
-    ensures n_bound { (result.n ≤ 56) × (result.v < 2 ^ result.n) }
+    ensures bits { number_bits result.n result.v ≡ next_bits (line row.now) j g ++ signs_bits (line row.now) j }
+    ensures size { (result.n ≤ 56) × (result.v < 2 ^ result.n) }
 {
     let s = signs(row, j);
     if g <= 1 {
@@ -342,9 +342,9 @@ pub struct Turn {
 // The turn at group j, whose width is w, where g groups are left.
 fn turn_at(row: &[i32], j: usize, g: usize, w: u64) -> Turn
     requires { (j + g < 2 ^ 16) × (0 < g) × (w ≡ group_width (line row.now) j) × Small (line row.now) }
-    ensures groups_value { (result.groups ≡ turn_groups (line row.now) j g) × (result.width ≡ group_width (line row.now) (j + result.groups)) }
-    ensures v_value { number_bits result.n result.v ≡ tail_bits (line row.now) j g }
-    ensures le_groups { (1 ≤ result.groups) × (result.groups ≤ g) × (result.n ≤ 56) × (result.v < 2 ^ result.n) }
+    ensures groups { (result.groups ≡ turn_groups (line row.now) j g) × (result.width ≡ group_width (line row.now) (j + result.groups)) }
+    ensures bits { number_bits result.n result.v ≡ tail_bits (line row.now) j g }
+    ensures bounds { (1 ≤ result.groups) × (result.groups ≤ g) × (result.n ≤ 56) × (result.v < 2 ^ result.n) }
 {
     if w == 0 {
         let k = zero_groups(row, j, g);

@@ -15,7 +15,8 @@ use Rattle.wrap32.specs.Cut.{cut, add_w}
 use Rattle.wrap32.specs.Edge.{edge_detail, edge_back}
 use Rattle.format.specs.Table.{E}
 use Rattle.format.specs.Refusals.{large_refusal, short_refusal}
-use Rattle.format.specs.Writing.{too_large, too_far, band_refusal, side_refusal, call_refusal, number_bits, unary_bits, update_bits, run_bits, group_width, zero_groups, next_bits, after_run, groups_bits, row_bits, magnitudes, record_bits, filled, whole_record, record_head, head_units, payload_units, packet_head, packet_bits, packet_units, group_units, entry_units, block_bits, header_bits, packed, stream_length}
+use Rattle.format.specs.Writing.{too_large, too_far, band_refusal, side_refusal, call_refusal, number_bits, unary_bits, update_bits, run_bits, group_width, zero_groups, next_bits, after_run}
+use Rattle.format.specs.Writing.{groups_bits, row_bits, magnitudes, record_bits, filled, whole_record, record_head, head_units, payload_units, packet_head, packet_bits, packet_units, group_units, entry_units, block_bits, header_bits, packed, stream_length}
 
 -- ---- width updates: document 01's points, written
 kept-0 : update_bits 0 0 ≡ 0 ∷ []

@@ -56,7 +56,7 @@ pub fn lift_row(out: &mut [i32], low: &[i32], high: &[i32])
 
 // High results at `to`, between the rows at a and b of the same slice.
 pub fn odd_row(ring: &mut [i32], high: &[i32], to: usize, a: usize, b: usize)
-    requires high_in_bounds { (to + length high.now ≤ length ring.old) × (a + length high.now ≤ length ring.old) × (b + length high.now ≤ length ring.old) }
+    requires in_bounds { (to + length high.now ≤ length ring.old) × (a + length high.now ≤ length ring.old) × (b + length high.now ≤ length ring.old) }
     requires clear { Clear to (length high.now) a × Clear to (length high.now) b }
     ensures { ring.new ≡ put_at ring.old to (high_row (length high.now) high.now (part ring.old a (length high.now)) (part ring.old b (length high.now))) }
 {

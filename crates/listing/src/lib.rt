@@ -128,7 +128,7 @@ pub fn respond(input: &[u8], out: &mut [u8; 4096]) -> usize
 }
 
 // Reads until the buffer is full or the input ends, however the input is cut into reads: how many bytes then stand at the buffer's start.
-pub fn read_full<R: Read>(input: &mut R, buf: &mut [u8]) -> io::Result<usize>
+fn read_full<R: Read>(input: &mut R, buf: &mut [u8]) -> io::Result<usize>
     ensures in_bounds { IfOk result (λ n. n ≤ length buf.new) }
     ensures bytes { IfOk result (λ n. Consumes (R.remaining input.old) (R.remaining input.new) (take n buf.new)) }
     ensures end { IfOk result (λ n. n < length buf.new → IsAtEnd (R.remaining input.new)) }

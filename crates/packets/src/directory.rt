@@ -114,7 +114,7 @@ pub fn packet_length(stream: &[u8], group: usize, index: usize) -> usize
 pub fn find_entry(stream: &[u8], group: usize, index: usize) -> DirEntry
     requires { (128 ≤ length stream.now) × (group < 5) × (index < 16) }
     ensures value { result ≡ entry_of stream.now group index }
-    ensures result_value { entry_number result ≡ on (not (has_entry stream.now group index)) 9 }
+    ensures number { entry_number result ≡ on (not (has_entry stream.now group index)) 9 }
 {
     let at = block_at(stream, group);
     let count = entry_count(stream, at);

@@ -43,8 +43,8 @@ fn undo_into(
     b: usize,
 ) -> Undone
     requires within { Within from s (2 * c) (h + m) (length work.old) × Within to t (2 * c) (h + m) (length work.old) × RowsApart from s to t (2 * c) (h + m) }
-    requires le_c { (1 ≤ c) × (2 * c ≤ t) × (1 ≤ h) × Shape (lead_of leads) h m }
-    requires a_le_b { (a ≤ b) × (b ≤ to) × (b ≤ length work.old) × (to + t < 2 ^ 63) }
+    requires shape { (1 ≤ c) × (2 * c ≤ t) × (1 ≤ h) × Shape (lead_of leads) h m }
+    requires order { (a ≤ b) × (b ≤ to) × (b ≤ length work.old) × (to + t < 2 ^ 63) }
     ensures { Ready (lead_of leads) h m c from s to t a b work.old work.new result }
 {
     undo_level(work, from, s, to, t, c, h, m, leads);
@@ -218,7 +218,7 @@ fn large_rows(work: &[i32], from: usize, e: usize, gap: usize, c: usize, count: 
 fn average_rows(work: &mut [i32], z: Plan, plane: &[i32])
     requires { Block z 0 (length work.old) × (plane_rows z.guarded z.n * z.w ≤ length plane.now) }
     ensures index_rows { IndexRows z (64 * unit_of z) (l_of (plane_rows z.guarded z.n) (z.w / 2) (read_plane z.w plane.now)) work.new }
-    ensures work_len_unchanged { length work.new ≡ length work.old }
+    ensures same_length { length work.new ≡ length work.old }
 {
     let u = z.unit();
     let c = z.w / 2;
@@ -231,7 +231,7 @@ fn average_rows(work: &mut [i32], z: Plan, plane: &[i32])
 fn green_back(work: &mut [i32], z: Plan, plane: &[i32]) -> u64
     requires { Block z 0 (length work.old) × (plane_rows z.guarded z.n * z.w ≤ length plane.now) }
     ensures back { Back z 0 green (l_of (plane_rows z.guarded z.n) (z.w / 2) (read_plane z.w plane.now)) work.new result }
-    ensures work_len_unchanged { length work.new ≡ length work.old }
+    ensures same_length { length work.new ≡ length work.old }
 {
     let u = z.unit();
     average_rows(work, z, plane);
@@ -283,7 +283,7 @@ pub fn recover(work: &mut [i32], z: Plan, full: &[i32], red: &[i32], blue: &[i32
     requires { Room z (length work.old) (length full.now) (length red.now) (length blue.now) }
     ensures value { result ≡ numbers_refusal z.guarded z.n z.w (slice full.now red.now blue.now) }
     ensures recovered { Recovered z (slice full.now red.now blue.now) work.new }
-    ensures work_len_unchanged { length work.new ≡ length work.old }
+    ensures same_length { length work.new ≡ length work.old }
 {
     let u = z.unit();
     let a = green_back(work, z, full);

@@ -44,7 +44,7 @@ fn low_half(
 
 // A row of high results at `to`, from a high row of work and the ring's rows at a and b.
 fn high_half(work: &[i32], ring: &mut [i32], c: usize, high: usize, a: usize, b: usize, to: usize)
-    requires c_in_bounds { (to + c ≤ length ring.old) × (a + c ≤ length ring.old) × (b + c ≤ length ring.old) × (high + c ≤ length work.now) }
+    requires in_bounds { (to + c ≤ length ring.old) × (a + c ≤ length ring.old) × (b + c ≤ length ring.old) × (high + c ≤ length work.now) }
     requires clear { Clear to c a × Clear to c b }
     ensures { ring.new ≡ put_at ring.old to (high_row c (part work.now high c) (part ring.old a c) (part ring.old b c)) }
 {

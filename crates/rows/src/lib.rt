@@ -57,7 +57,7 @@ fn with_sign(z: i32, bit: u64) -> i32
 // A value with its sign.
 fn sign(z: i32, reader: BitReader, packet: &[u8]) -> Signed
     requires { Ready packet.now reader }
-    ensures result_value { as_signed result ≡ sign_of packet.now z (as_reader reader) }
+    ensures value { as_signed result ≡ sign_of packet.now z (as_reader reader) }
     ensures ready { Ready packet.now result.reader }
 {
     if 0 < z {
@@ -94,9 +94,9 @@ struct RunAnswer {
 fn signs_apart(q: Four, selector: u64, reader: BitReader, packet: &[u8]) -> SignedFour
     requires ready { Ready packet.now reader }
     requires selector_bound { selector < 16 }
-    requires a_bound { (q.a < 2 ^ 19) × (q.b < 2 ^ 19) × (q.c < 2 ^ 19) × (q.d < 2 ^ 19) }
-    ensures result_value { as_signed_four result ≡ signs_of packet.now selector (as_four q) (as_reader reader) }
-    ensures ready_2 { Ready packet.now result.reader }
+    requires short { (q.a < 2 ^ 19) × (q.b < 2 ^ 19) × (q.c < 2 ^ 19) × (q.d < 2 ^ 19) }
+    ensures value { as_signed_four result ≡ signs_of packet.now selector (as_four q) (as_reader reader) }
+    ensures still_ready { Ready packet.now result.reader }
 {
     let a = sign(value(q.a, selector), reader, packet);
     let ra = a.reader;
@@ -141,9 +141,9 @@ fn sign_bit(v: i32, word: u64, used: u64) -> SignBit
 fn signs(q: Four, selector: u64, reader: BitReader, packet: &[u8]) -> SignedFour
     requires ready { Ready packet.now reader }
     requires selector_bound { selector < 16 }
-    requires a_bound { (q.a < 2 ^ 19) × (q.b < 2 ^ 19) × (q.c < 2 ^ 19) × (q.d < 2 ^ 19) }
-    ensures result_value { as_signed_four result ≡ signs_of packet.now selector (as_four q) (as_reader reader) }
-    ensures ready_2 { Ready packet.now result.reader }
+    requires short { (q.a < 2 ^ 19) × (q.b < 2 ^ 19) × (q.c < 2 ^ 19) × (q.d < 2 ^ 19) }
+    ensures value { as_signed_four result ≡ signs_of packet.now selector (as_four q) (as_reader reader) }
+    ensures still_ready { Ready packet.now result.reader }
 {
     if reader.remaining < 4 {
         return signs_apart(q, selector, reader, packet);
@@ -165,7 +165,7 @@ fn signs(q: Four, selector: u64, reader: BitReader, packet: &[u8]) -> SignedFour
 // The width after a zero run.
 fn width_after(reader: BitReader, packet: &[u8], left: u64) -> Taken
     requires { Ready packet.now reader }
-    ensures result_value { as_taken result ≡ width_after packet.now left (as_reader reader) }
+    ensures value { as_taken result ≡ width_after packet.now left (as_reader reader) }
     ensures ready { Ready packet.now result.reader }
 {
     if left == 0 {
@@ -178,8 +178,8 @@ fn width_after(reader: BitReader, packet: &[u8], left: u64) -> Taken
 fn width_next(reader: BitReader, packet: &[u8], width: u64, groups: u64) -> Taken
     requires ready { Ready packet.now reader }
     requires width_bound { width ≤ 19 }
-    ensures result_value { as_taken result ≡ width_next packet.now groups width (as_reader reader) }
-    ensures ready_2 { Ready packet.now result.reader }
+    ensures value { as_taken result ≡ width_next packet.now groups width (as_reader reader) }
+    ensures still_ready { Ready packet.now result.reader }
 {
     if groups <= 1 {
         return Taken {
@@ -194,8 +194,8 @@ fn width_next(reader: BitReader, packet: &[u8], width: u64, groups: u64) -> Take
 fn group(reader: BitReader, packet: &[u8], width: u64, selector: u64, groups: u64) -> GroupAnswer
     requires ready { Ready packet.now reader }
     requires width_bound { (width ≤ 19) × (selector < 16) }
-    ensures result_value { as_group result ≡ group_of packet.now selector groups (state_of width reader) }
-    ensures ready_2 { Ready packet.now result.reader }
+    ensures value { as_group result ≡ group_of packet.now selector groups (state_of width reader) }
+    ensures still_ready { Ready packet.now result.reader }
 {
     let q = reader.read4(packet, width);
     let rq = q.reader;
@@ -216,10 +216,10 @@ fn group(reader: BitReader, packet: &[u8], width: u64, selector: u64, groups: u6
 // A run of zero groups.
 fn zero_groups(reader: BitReader, packet: &[u8], groups: u64) -> RunAnswer
     requires ready { Ready packet.now reader }
-    requires groups_nonzero { (0 < groups) × (groups < 2 ^ 32) }
-    ensures result_value { as_run result ≡ zeros_of packet.now groups (as_reader reader) }
-    ensures ready_2 { Ready packet.now result.reader }
-    ensures groups_nonzero_2 { (0 < result.groups) × (result.groups ≤ groups) }
+    requires some { (0 < groups) × (groups < 2 ^ 32) }
+    ensures value { as_run result ≡ zeros_of packet.now groups (as_reader reader) }
+    ensures still_ready { Ready packet.now result.reader }
+    ensures some_groups { (0 < result.groups) × (result.groups ≤ groups) }
 {
     let run = reader.zero_run(packet, groups);
     let rr = run.reader;
@@ -234,8 +234,8 @@ fn zero_groups(reader: BitReader, packet: &[u8], groups: u64) -> RunAnswer
 
 // Status 1 if it was 0.
 fn stop(reader: BitReader) -> BitReader
-    ensures result_value { as_reader result ≡ stopped (as_reader reader) }
-    ensures by_index { (s : List ℕ) → Ready s reader → Ready s result }
+    ensures value { as_reader result ≡ stopped (as_reader reader) }
+    ensures still_ready { (s : List ℕ) → Ready s reader → Ready s result }
 {
     if reader.status == 0 {
         return BitReader {
@@ -499,9 +499,9 @@ const LENGTHS: [u8; 32] = [
 
 // The step of a group out of a word: by the tables, or, where its update is longer than theirs, by the zeros in it.
 fn step_word(word: u64, width: u64, moves: &[i8], lengths: &[u8]) -> Step
-    requires le_width { (1 ≤ width) × (width ≤ 12) }
+    requires short { (1 ≤ width) × (width ≤ 12) }
     requires tables { Tables moves.now lengths.now }
-    ensures level_value { (level_of result.level ≡ (step_of word width).width) × (result.used ≡ (step_of word width).used) }
+    ensures step { (level_of result.level ≡ (step_of word width).width) × (result.used ≡ (step_of word width).used) }
     ensures used_bound { result.used ≤ 115 }
 {
     let rest = word << (4 * width);
@@ -567,7 +567,7 @@ fn fast(
     lengths: &[u8],
 ) -> Next
     requires ready { Ready packet.now reader }
-    requires status_value { (reader.status ≡ 0) × (length dst.old < 2 ^ 32) × (out < length dst.old) × (width ≤ 19) }
+    requires going { (reader.status ≡ 0) × (length dst.old < 2 ^ 32) × (out < length dst.old) × (width ≤ 19) }
     requires clean { Clean dst.old out × Tables moves.now lengths.now }
     ensures onward { Onward packet.now 0 dst.old out (state_of width reader) dst.new result.out (state_of result.width result.reader) }
     ensures done { Done packet.now (length dst.old) out width result.out result.width result.reader }
@@ -628,7 +628,7 @@ fn fast_scaled(
     lengths: &[u8],
 ) -> Next
     requires ready { Ready packet.now reader }
-    requires status_value { (reader.status ≡ 0) × (length dst.old < 2 ^ 32) × (out < length dst.old) × (width ≤ 19) × (0 < selector) × (selector < 16) }
+    requires going { (reader.status ≡ 0) × (length dst.old < 2 ^ 32) × (out < length dst.old) × (width ≤ 19) × (0 < selector) × (selector < 16) }
     requires clean { Clean dst.old out × Tables moves.now lengths.now }
     ensures onward { Onward packet.now selector dst.old out (state_of width reader) dst.new result.out (state_of result.width result.reader) }
     ensures done { Done packet.now (length dst.old) out width result.out result.width result.reader }
@@ -689,7 +689,7 @@ fn quick(
     lengths: &[u8],
 ) -> Next
     requires ready { Ready packet.now reader }
-    requires status_value { (reader.status ≡ 0) × (length dst.old < 2 ^ 32) × (out < length dst.old) × (width ≤ 19) × (selector < 16) }
+    requires going { (reader.status ≡ 0) × (length dst.old < 2 ^ 32) × (out < length dst.old) × (width ≤ 19) × (selector < 16) }
     requires clean { Clean dst.old out × Tables moves.now lengths.now }
     ensures onward { Onward packet.now selector dst.old out (state_of width reader) dst.new result.out (state_of result.width result.reader) }
     ensures done { Done packet.now (length dst.old) out width result.out result.width result.reader }
@@ -710,10 +710,10 @@ fn plain(
     out: usize,
 ) -> Next
     requires ready { Ready packet.now reader }
-    requires status_value { (reader.status ≡ 0) × (length dst.old < 2 ^ 32) × (out < length dst.old) × (selector < 16) × (width ≤ 19) }
+    requires going { (reader.status ≡ 0) × (length dst.old < 2 ^ 32) × (out < length dst.old) × (selector < 16) × (width ≤ 19) }
     requires clean { Clean dst.old out }
     ensures onward { Onward packet.now selector dst.old out (state_of width reader) dst.new result.out (state_of result.width result.reader) }
-    ensures out_lt_out { (out < result.out) × (result.out < length dst.old + 4) × Ready packet.now result.reader }
+    ensures done { (out < result.out) × (result.out < length dst.old + 4) × Ready packet.now result.reader }
 {
     let left = (dst.len() - out + 3) / 4;
     if width == 0 {
@@ -749,9 +749,9 @@ fn halts(reader: BitReader, width: u64) -> bool
 fn decode_row(reader: BitReader, packet: &[u8], dst: &mut [i32], selector: u64) -> BitReader
     requires ready { Ready packet.now reader }
     requires selector_bound { (selector < 16) × (length dst.old < 2 ^ 32) }
-    ensures result_value { as_reader result ≡ (row_of packet.now selector (length dst.old) (as_reader reader)).reader }
+    ensures value { as_reader result ≡ (row_of packet.now selector (length dst.old) (as_reader reader)).reader }
     ensures dst_after { dst.new ≡ (row_of packet.now selector (length dst.old) (as_reader reader)).values }
-    ensures ready_2 { Ready packet.now result }
+    ensures still_ready { Ready packet.now result }
 {
     let moves = MOVES;
     let lengths = LENGTHS;
@@ -798,10 +798,10 @@ pub fn decode_component(
 ) -> RowAnswer
     requires ready { Ready packet.now reader }
     requires selector_bound { (selector < 16) × (length dst.old < 2 ^ 32) }
-    ensures bits_value { result.bits ≡ row_used packet.now selector (length dst.old) (as_reader reader) }
-    ensures reader_value { as_reader result.reader ≡ (row_of packet.now selector (length dst.old) (as_reader reader)).reader }
+    ensures bits { result.bits ≡ row_used packet.now selector (length dst.old) (as_reader reader) }
+    ensures reader_after { as_reader result.reader ≡ (row_of packet.now selector (length dst.old) (as_reader reader)).reader }
     ensures dst_after { dst.new ≡ (row_of packet.now selector (length dst.old) (as_reader reader)).values }
-    ensures ready_2 { Ready packet.now result.reader }
+    ensures still_ready { Ready packet.now result.reader }
 {
     let after = decode_row(reader, packet, dst, selector);
     RowAnswer {

@@ -1,7 +1,7 @@
 -- Laws of a tile's fields by ordinal, and of how many tiles there are. Assumes nothing.
 use mathlib.Core.Path.{◌≡◌, refl, ap}
 use mathlib.Core.List.{List, [], ◌∷◌}
-use mathlib.Core.Option.{Option, none, some}
+use Rattle.std.specs.Prelude.{Option, Some, None}
 use mathlib.Core.Bool.{Bool, true, false, cond, ◌||◌}
 use mathlib.Core.Logic.{⊎_elim}
 use Prim.Native.Nat.{ℕ, zero, suc, ◌≤◌, ◌<◌}
@@ -49,18 +49,18 @@ pub field_past : (ts : List Tile) (k f : ℕ) → length ts ≤ 16 → 16 ≤ k 
 field_past ts k f short h = ap (λ (l : List ℕ). get_or l f 0) (fields-past ts k (omega arith))
 
 one_more : (o : Option Tile) (r : Option (List Tile)) → length (table_or (and_tile o r) []) ≤ suc (length (table_or r []))
-one_more (some t) (some ts) = omega arith
-one_more (some t) none = omega arith
-one_more none r = omega arith
+one_more (Some t) (Some ts) = omega arith
+one_more (Some t) None = omega arith
+one_more None r = omega arith
 
-at_most : (b : Bool) (r : Option (List Tile)) (rest : List Tile) → length (table_or r []) ≤ 16 → length rest ≤ 16 → length (table_or (cond b r none) rest) ≤ 16
-at_most true (some ts) rest h k = h
-at_most true none rest h k = k
+at_most : (b : Bool) (r : Option (List Tile)) (rest : List Tile) → length (table_or r []) ≤ 16 → length rest ≤ 16 → length (table_or (cond b r None) rest) ≤ 16
+at_most true (Some ts) rest h k = h
+at_most true None rest h k = k
 at_most false r rest h k = k
 
 one-listed : (o : Option Tile) → length (listed o) ≤ 16
-one-listed (some t) = omega arith
-one-listed none = omega arith
+one-listed (Some t) = omega arith
+one-listed None = omega arith
 
 module _ (strip : List ℕ) (w h : ℕ) where
   entries-most : (a n : ℕ) → length (table_or (entry_tiles strip w h a n) []) ≤ n
@@ -68,7 +68,7 @@ module _ (strip : List ℕ) (w h : ℕ) where
   entries-most a zero = omega arith
   entries-most a (suc n) = omega (arith, one_more (entry_tile strip w h a) (entry_tiles strip w h (suc a) n), entries-most (suc a) n)
 
-  table-most : (n : ℕ) (rest : List Tile) → length rest ≤ 16 → length (table_or (cond (has_table n) (entry_tiles strip w h 0 n) none) rest) ≤ 16
+  table-most : (n : ℕ) (rest : List Tile) → length rest ≤ 16 → length (table_or (cond (has_table n) (entry_tiles strip w h 0 n) None) rest) ≤ 16
   table-most n rest k =
       ⊎_elim
       (λ few. at_most (has_table n) (entry_tiles strip w h 0 n) rest (omega (arith, entries-most 0 n)) k)

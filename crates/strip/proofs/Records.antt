@@ -1,7 +1,7 @@
 -- Laws of the table's tiles and of their records. Assumes nothing.
 use mathlib.Core.Path.{◌≡◌, refl, sym, ap, ◌∙◌}
 use mathlib.Core.List.{List, [], ◌∷◌, ◌++◌}
-use mathlib.Core.Option.{Option, none, some}
+use Rattle.std.specs.Prelude.{Option, Some, None}
 use mathlib.Core.Bool.{Bool, true, false, cond, ◌||◌}
 use mathlib.Core.Logic.{⊎_elim}
 use borrow.Author.Tests.{le-leb, lt-leb, le-ltb, ne_eqb}
@@ -21,23 +21,23 @@ use Rattle.strip.specs.Answers.{zero_stream, stream_of, located_tile_of, answer_
 
 -- one more tile at the end
 abbrev pub snoc : Option (List Tile) → Option Tile → Option (List Tile)
-snoc (some ts) (some t) = some (ts ++ t ∷ [])
-snoc (some ts) none = none
-snoc none o = none
+snoc (Some ts) (Some t) = Some (ts ++ t ∷ [])
+snoc (Some ts) None = None
+snoc None o = None
 
-first_one : (o : Option Tile) → and_tile o (some []) ≡ snoc (some []) o
-first_one (some t) = refl
-first_one none = refl
+first_one : (o : Option Tile) → and_tile o (Some []) ≡ snoc (Some []) o
+first_one (Some t) = refl
+first_one None = refl
 
 swap : (o : Option Tile) (r : Option (List Tile)) (p : Option Tile) → and_tile o (snoc r p) ≡ snoc (and_tile o r) p
-swap (some t) (some ts) (some u) = refl
-swap (some t) (some ts) none = refl
-swap (some t) none p = refl
-swap none r p = refl
+swap (Some t) (Some ts) (Some u) = refl
+swap (Some t) (Some ts) None = refl
+swap (Some t) None p = refl
+swap None r p = refl
 
-snoc-none : (r : Option (List Tile)) → snoc r none ≡ none
-snoc-none (some ts) = refl
-snoc-none none = refl
+snoc-none : (r : Option (List Tile)) → snoc r None ≡ None
+snoc-none (Some ts) = refl
+snoc-none None = refl
 
 module _ (strip : List ℕ) (w h : ℕ) where
   entries-snoc : (a n : ℕ) → entry_tiles strip w h a (suc n) ≡ snoc (entry_tiles strip w h a n) (entry_tile strip w h (a + n))
@@ -51,7 +51,7 @@ module _ (strip : List ℕ) (w h : ℕ) where
   snoc-last : (n : ℕ) → entry_tiles strip w h 0 (suc n) ≡ snoc (entry_tiles strip w h 0 n) (entry_tile strip w h n)
   snoc-last n = entries-snoc 0 n ∙ ap (λ (k : ℕ). snoc (entry_tiles strip w h 0 n) (entry_tile strip w h k)) (zero-add n)
 
-  pub entries_none : entry_tiles strip w h 0 0 ≡ some []
+  pub entries_none : entry_tiles strip w h 0 0 ≡ Some []
   unfolding entry_tiles
   entries_none = refl
 
@@ -60,7 +60,7 @@ module _ (strip : List ℕ) (w h : ℕ) where
   entries-on i = let next : i + 1 ≡ suc i = omega arith in rw next (snoc-last i)
 
   -- one failed entry drops all
-  pub entries-fail : (i n : ℕ) → entry_tile strip w h i ≡ none → i < n → entry_tiles strip w h 0 n ≡ none
+  pub entries-fail : (i n : ℕ) → entry_tile strip w h i ≡ None → i < n → entry_tiles strip w h 0 n ≡ None
   entries-fail i zero bad less = absurd (omega arith)
   entries-fail i (suc n) bad less =
       ⊎_elim
@@ -82,8 +82,8 @@ abbrev got : Option (List Tile) → List Tile
 got r = table_or r []
 
 abbrev held : Option (List Tile) → ℕ
-held (some ts) = 1
-held none = 0
+held (Some ts) = 1
+held None = 0
 
 abbrev tile_in : LocatedTile → TileStream
 tile_in (answer.Tile t) = t
@@ -91,27 +91,27 @@ tile_in answer.Nothing = zero_stream
 
 -- the tiles of the entries before i all found, and their records
 abbrev Held : Option (List Tile) → List TileStream → ℕ → Type 0
-Held r tiles i = (r ≡ some (got r)) × (length (got r) ≡ i) × (tiles ≡ records 16 (got r))
+Held r tiles i = (r ≡ Some (got r)) × (length (got r) ≡ i) × (tiles ≡ records 16 (got r))
 
 held_on : (r : Option (List Tile)) (o : Option Tile) (tiles : List TileStream) (i : ℕ) (t : TileStream)
     → Held r tiles i → i < 16 → located_tile_of o ≡ answer.Tile t → Held (snoc r o) (set tiles i t) (i + 1)
-held_on (some ts) (some u) tiles i t (e, long, same) h found =
+held_on (Some ts) (Some u) tiles i t (e, long, same) h found =
     let tile : stream_of u ≡ t = ap tile_in found in (
       refl,
       length-append ts (u ∷ []) ∙ ap (λ (n : ℕ). n + 1) long,
       rw (same, ← tile, ← long) (records-put 16 ts u (omega (arith, long))),
     )
-held_on (some ts) none tiles i t k h found = absurd (omega (arith, ap answer_number found))
-held_on none o tiles i t (e, long, same) h found = absurd (omega (arith, ap held e))
+held_on (Some ts) None tiles i t k h found = absurd (omega (arith, ap answer_number found))
+held_on None o tiles i t (e, long, same) h found = absurd (omega (arith, ap held e))
 
 whole : (r : Option (List Tile)) (tiles : List TileStream) (n : ℕ) → Held r tiles n → 1 ≤ n → located n tiles ≡ located_of (got r)
-whole (some []) tiles n (e, long, same) low = absurd (omega (arith, long))
-whole (some (t ∷ ts)) tiles n (e, long, same) low = rw (ne_eqb n 0 (λ z. omega (arith, z, low)), same, ← long) refl
-whole none tiles n (e, long, same) low = absurd (omega (arith, ap held e))
+whole (Some []) tiles n (e, long, same) low = absurd (omega (arith, long))
+whole (Some (t ∷ ts)) tiles n (e, long, same) low = rw (ne_eqb n 0 (λ z. omega (arith, z, low)), same, ← long) refl
+whole None tiles n (e, long, same) low = absurd (omega (arith, ap held e))
 
-failed : (o : Option Tile) → located_tile_of o ≡ answer.Nothing → o ≡ none
-failed (some t) e = absurd (omega (arith, ap answer_number e))
-failed none e = refl
+failed : (o : Option Tile) → located_tile_of o ≡ answer.Nothing → o ≡ None
+failed (Some t) e = absurd (omega (arith, ap answer_number e))
+failed None e = refl
 
 module _ (strip : List ℕ) (w h : ℕ) where
   abbrev pub Gathered : List TileStream → ℕ → Type 0
@@ -138,7 +138,7 @@ module _ (strip : List ℕ) (w h : ℕ) where
   unfolding table_tiles
   gathered-fail i n bad less same =
       rw (← same, entries-fail strip w h i n (failed (entry_tile strip w h i) bad) less)
-      (of-cond (λ (r : Option (List Tile)). table_or r [] ≡ []) (has_table n) none none (λ _. refl) (λ _. refl))
+      (of-cond (λ (r : Option (List Tile)). table_or r [] ≡ []) (has_table n) None None (λ _. refl) (λ _. refl))
 
 -- ---- the whole strip
 
@@ -149,24 +149,24 @@ pub many-entries : (n : ℕ) → 16 < n → has_table n ≡ false
 many-entries n h = simp (le-leb 1 n (omega arith), lt-leb n 16 h)
 
 -- a table whose tiles are all there is not empty, and decides
-decides : (b : Bool) (o : Option Tile) (r : Option (List Tile)) (rest : List Tile) → (located_of (table_or (cond b (and_tile o r) none) [])).refusal ≡ 0
-    → table_or (cond b (and_tile o r) none) rest ≡ table_or (cond b (and_tile o r) none) []
-decides true (some t) (some ts) rest e = refl
-decides true (some t) none rest e = absurd (omega (arith, e))
-decides true none r rest e = absurd (omega (arith, e))
+decides : (b : Bool) (o : Option Tile) (r : Option (List Tile)) (rest : List Tile) → (located_of (table_or (cond b (and_tile o r) None) [])).refusal ≡ 0
+    → table_or (cond b (and_tile o r) None) rest ≡ table_or (cond b (and_tile o r) None) []
+decides true (Some t) (Some ts) rest e = refl
+decides true (Some t) None rest e = absurd (omega (arith, e))
+decides true None r rest e = absurd (omega (arith, e))
 decides false o r rest e = absurd (omega (arith, e))
 
-leaves : (b : Bool) (o : Option Tile) (r : Option (List Tile)) (rest : List Tile) → ((located_of (table_or (cond b (and_tile o r) none) [])).refusal ≡ 0 → ⊥)
-    → table_or (cond b (and_tile o r) none) rest ≡ rest
-leaves true (some t) (some ts) rest e = absurd (e refl)
-leaves true (some t) none rest e = refl
-leaves true none r rest e = refl
+leaves : (b : Bool) (o : Option Tile) (r : Option (List Tile)) (rest : List Tile) → ((located_of (table_or (cond b (and_tile o r) None) [])).refusal ≡ 0 → ⊥)
+    → table_or (cond b (and_tile o r) None) rest ≡ rest
+leaves true (Some t) (Some ts) rest e = absurd (e refl)
+leaves true (Some t) None rest e = refl
+leaves true None r rest e = refl
 leaves false o r rest e = refl
 
 pub one-tile : (o : Option Tile) (t : TileStream) → located_tile_of o ≡ answer.Tile t → located 1 (set (records 16 []) 0 t) ≡ located_of (listed o)
 unfolding records
-one-tile (some u) t e = let tile : stream_of u ≡ t = ap tile_in e in rw (← tile) refl
-one-tile none t e = absurd (omega (arith, ap answer_number e))
+one-tile (Some u) t e = let tile : stream_of u ≡ t = ap tile_in e in rw (← tile) refl
+one-tile None t e = absurd (omega (arith, ap answer_number e))
 
 pub no_tile : (o : Option Tile) → located_tile_of o ≡ answer.Nothing → listed o ≡ []
 no_tile o e = ap listed (failed o e)
@@ -181,18 +181,18 @@ module _ (strip : List ℕ) (w h : ℕ) where
   no-frame e = rw e refl
 
   module _ (wide : w ≡ 0 → ⊥) (high : h ≡ 0 → ⊥) (long : 640 ≤ length strip) where
-    framed : tiles_of strip w h ≡ table_or (cond (has_table (little32 strip 0)) (entry_tiles strip w h 0 (little32 strip 0)) none) (listed (alone strip w h))
+    framed : tiles_of strip w h ≡ table_or (cond (has_table (little32 strip 0)) (entry_tiles strip w h 0 (little32 strip 0)) None) (listed (alone strip w h))
     unfolding tiles_of
     framed = rw (ne_eqb w 0 wide, ne_eqb h 0 high, le-ltb (length strip) 640 long) refl
 
-    table-decides : (n : ℕ) (rest : List Tile) → (located_of (table_or (cond (has_table n) (entry_tiles strip w h 0 n) none) [])).refusal ≡ 0
-        → table_or (cond (has_table n) (entry_tiles strip w h 0 n) none) rest ≡ table_or (cond (has_table n) (entry_tiles strip w h 0 n) none) []
+    table-decides : (n : ℕ) (rest : List Tile) → (located_of (table_or (cond (has_table n) (entry_tiles strip w h 0 n) None) [])).refusal ≡ 0
+        → table_or (cond (has_table n) (entry_tiles strip w h 0 n) None) rest ≡ table_or (cond (has_table n) (entry_tiles strip w h 0 n) None) []
     unfolding entry_tiles
     table-decides zero rest e = absurd (omega (arith, e))
     table-decides (suc n) rest e = decides (has_table (suc n)) (entry_tile strip w h 0) (entry_tiles strip w h 1 n) rest e
 
-    table-leaves : (n : ℕ) (rest : List Tile) → ((located_of (table_or (cond (has_table n) (entry_tiles strip w h 0 n) none) [])).refusal ≡ 0 → ⊥)
-        → table_or (cond (has_table n) (entry_tiles strip w h 0 n) none) rest ≡ rest
+    table-leaves : (n : ℕ) (rest : List Tile) → ((located_of (table_or (cond (has_table n) (entry_tiles strip w h 0 n) None) [])).refusal ≡ 0 → ⊥)
+        → table_or (cond (has_table n) (entry_tiles strip w h 0 n) None) rest ≡ rest
     unfolding entry_tiles
     table-leaves zero rest e = refl
     table-leaves (suc n) rest e = leaves (has_table (suc n)) (entry_tile strip w h 0) (entry_tiles strip w h 1 n) rest e

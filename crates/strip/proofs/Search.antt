@@ -1,7 +1,7 @@
 -- Laws of the search for a tile: one candidate, the candidates in turn. Assumes nothing.
 use mathlib.Core.Path.{◌≡◌, refl, sym, ap, subst, ◌∙◌}
 use mathlib.Core.List.{List}
-use mathlib.Core.Option.{Option, none, some}
+use Rattle.std.specs.Prelude.{Option, Some, None}
 use mathlib.Core.Bool.{Bool, true, false, not, ◌&&◌}
 use Prim.Native.Nat.{ℕ, zero, suc, ◌+◌, ◌-◌, ◌/◌, ◌≤◌, ◌<◌}
 use native.Mathlib.Omega.{arith}
@@ -27,17 +27,17 @@ module _ (s : List ℕ) (at n x y W H x' y' : ℕ) where
 
 -- the number of each answer is that of the strip that has no other
 pub number_is : (o : Option Tile) → answer_number (located_tile_of o) ≡ (located_of (listed o)).refusal
-number_is (some t) = refl
-number_is none = refl
+number_is (Some t) = refl
+number_is None = refl
 
 -- a tile that is taken ends the search, nothing passes it on
 pub hit : (o rest : Option Tile) {t : _} → located_tile_of o ≡ answer.Tile t → located_tile_of (or_else o rest) ≡ answer.Tile t
-hit (some u) rest e = e
-hit none rest e = absurd (omega (arith, ap answer_number e))
+hit (Some u) rest e = e
+hit None rest e = absurd (omega (arith, ap answer_number e))
 
 pub miss : (o rest : Option Tile) → located_tile_of o ≡ answer.Nothing → or_else o rest ≡ rest
-miss (some u) rest e = absurd (omega (arith, ap answer_number e))
-miss none rest e = refl
+miss (Some u) rest e = absurd (omega (arith, ap answer_number e))
+miss None rest e = refl
 
 -- ---- the tests of a candidate
 
@@ -76,11 +76,11 @@ told-not l s r e f k = subst (λ (x : List ℕ). valid_header x ≡ false) e (su
 
 module _ (f : ℕ → Option Tile) (at end : ℕ) where
   -- past the end nothing is left
-  pub search-none : end < at → first_taken f at ((end + 16 - at) / 16) ≡ none
+  pub search-none : end < at → first_taken f at ((end + 16 - at) / 16) ≡ None
   unfolding first_taken
   search-none h =
-      let none : (end + 16 - at) / 16 ≡ 0 = omega arith in
-      rw none refl
+      let no_place : (end + 16 - at) / 16 ≡ 0 = omega arith in
+      rw no_place refl
 
   -- up to the end, this candidate and then the next
   pub search-on : at ≤ end → first_taken f at ((end + 16 - at) / 16) ≡ or_else (f at) (first_taken f (at + 16) ((end + 16 - (at + 16)) / 16))

@@ -1,6 +1,5 @@
 -- The answers of the header and of the locator, with document 01's number and values for each case.
-use Rattle.std.specs.Prelude.{◌≡◌, List, [], ◌∷◌, Bool, true, false, not, cond, ◌&&◌, ℕ, zero, suc, ◌+◌, ◌^◌, ◌≤◌, ◌<◌, leb, eqb, length, get_or}
-use Rattle.std.proofs.Math.Option.{Option, none, some}
+use Rattle.std.specs.Prelude.{Option, Some, None, ◌≡◌, List, [], ◌∷◌, Bool, true, false, not, cond, ◌&&◌, ℕ, zero, suc, ◌+◌, ◌^◌, ◌≤◌, ◌<◌, leb, eqb, length, get_or}
 use Rattle.format.specs.Bits.{little32}
 use Rattle.format.specs.Strip as strip
 use Rattle.format.specs.Refusals.{on}
@@ -51,8 +50,8 @@ zero_stream = stream 0 0 0 0 0 0
 
 -- what a position, an entry, or offset 512 alone gives: a tile with its six fields, or nothing
 abbrev pub located_tile_of : Option Tile → LocatedTile
-located_tile_of (some t) = answer.Tile (stream_of t)
-located_tile_of none = answer.Nothing
+located_tile_of (Some t) = answer.Tile (stream_of t)
+located_tile_of None = answer.Nothing
 
 -- the number of each answer, once it is the last: no refusal, or 1, no tile located
 abbrev pub answer_number : LocatedTile → ℕ
@@ -82,7 +81,7 @@ located_of (t ∷ ts) = record { refusal = 0; count = length (t ∷ ts); tiles =
 
 -- the tiles of the table alone; none where an entry fails or there is no table
 unfoldable pub table_tiles : List ℕ → ℕ → ℕ → List Tile
-table_tiles s frame_w frame_h = table_or (cond (has_table (little32 s 0)) (entry_tiles s frame_w frame_h 0 (little32 s 0)) none) []
+table_tiles s frame_w frame_h = table_or (cond (has_table (little32 s 0)) (entry_tiles s frame_w frame_h 0 (little32 s 0)) None) []
 
 -- ---- for C
 

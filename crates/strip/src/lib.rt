@@ -314,7 +314,7 @@ fn find_entry(strip: &[u8], full_w: usize, full_h: usize, i: usize) -> LocatedTi
 fn find_alone(strip: &[u8], full_w: usize, full_h: usize) -> LocatedTile
     requires { 640 ≤ length strip.now }
     ensures value { result ≡ located_tile_of (alone strip.now full_w full_h) }
-    ensures result_value { answer_number result ≡ (located_of (listed (alone strip.now full_w full_h))).refusal }
+    ensures refusal { answer_number result ≡ (located_of (listed (alone strip.now full_w full_h))).refusal }
 {
     let stream = stream_at(strip, TileStream::OFFSET);
     let StreamHeader::Valid(h) = parse_stream_header(stream) else {

@@ -43,7 +43,7 @@ fn quarter_back(l: i32, p: i32, c: i32) -> i32
 
 // A high row at `to`, less half of the rows at a and b.
 fn sub_half(work: &mut [i32], to: usize, a: usize, b: usize, n: usize)
-    requires n_in_bounds { (to + n ≤ length work.old) × (a + n ≤ length work.old) × (b + n ≤ length work.old) }
+    requires in_bounds { (to + n ≤ length work.old) × (a + n ≤ length work.old) × (b + n ≤ length work.old) }
     requires clear { Clear to n a × Clear to n b }
     ensures { work.new ≡ put_at work.old to (less_half n (part work.old to n) (part work.old a n) (part work.old b n)) }
 {
@@ -68,7 +68,7 @@ fn sub_row(work: &mut [i32], to: usize, a: usize, n: usize)
 
 // A low row at `to`, plus a quarter of the rows at a and b and 2.
 fn add_quarter(work: &mut [i32], to: usize, a: usize, b: usize, n: usize)
-    requires n_in_bounds { (to + n ≤ length work.old) × (a + n ≤ length work.old) × (b + n ≤ length work.old) }
+    requires in_bounds { (to + n ≤ length work.old) × (a + n ≤ length work.old) × (b + n ≤ length work.old) }
     requires clear { Clear to n a × Clear to n b }
     ensures { work.new ≡ put_at work.old to (plus_quarter n (part work.old to n) (part work.old a n) (part work.old b n)) }
 {
@@ -123,7 +123,7 @@ fn split_low(work: &mut [i32], from: usize, high: usize, to: usize, x: usize, la
 
 // Its c lows, where its highs stand at `high`; the first one last.
 fn split_lows(work: &mut [i32], from: usize, high: usize, to: usize, c: usize)
-    requires c_in_bounds { (from + 2 * c ≤ length work.old) × (high + c ≤ length work.old) × (to + c ≤ length work.old) }
+    requires in_bounds { (from + 2 * c ≤ length work.old) × (high + c ≤ length work.old) × (to + c ≤ length work.old) }
     requires apart { Apart from (2 * c) to c × Apart high c to c }
     ensures { work.new ≡ put_at work.old to (lows_from c (part work.old from (2 * c)) (part work.old high c)) }
 {
@@ -307,7 +307,7 @@ pub fn undo_level(
     leads: bool,
 )
     requires within { Within from s (2 * c) (h + m) (length work.old) × Within to t (2 * c) (h + m) (length work.old) × RowsApart from s to t (2 * c) (h + m) }
-    requires le_c { (1 ≤ c) × (2 * c ≤ t) × (1 ≤ h) × Shape (lead_of leads) h m }
+    requires shape { (1 ≤ c) × (2 * c ≤ t) × (1 ≤ h) × Shape (lead_of leads) h m }
     ensures { LevelUndone (lead_of leads) h m c from s to t work.old work.new }
 {
     let g = Columns {
@@ -440,7 +440,7 @@ fn average_at(
 
 // The averages of a row of green to `to`, from the details at `prev` and `cur`.
 fn averages_row(work: &mut [i32], row: &[i32], to: usize, prev: usize, cur: usize, c: usize)
-    requires c_in_bounds { (2 * c ≤ length row.now) × (to + c ≤ length work.old) × (prev + c ≤ length work.old) × (cur + c ≤ length work.old) }
+    requires in_bounds { (2 * c ≤ length row.now) × (to + c ≤ length work.old) × (prev + c ≤ length work.old) × (cur + c ≤ length work.old) }
     requires apart { Apart prev c to c × Apart cur c to c }
     ensures { work.new ≡ put_at work.old to (averages_row c row.now (part work.old prev c) (part work.old cur c)) }
 {
@@ -464,7 +464,7 @@ fn averages_at(
     cur: usize,
     c: usize,
 )
-    requires c_in_bounds { (row + 2 * c ≤ length plane.now) × (to + c ≤ length work.old) × (prev + c ≤ length work.old) × (cur + c ≤ length work.old) }
+    requires in_bounds { (row + 2 * c ≤ length plane.now) × (to + c ≤ length work.old) × (prev + c ≤ length work.old) × (cur + c ≤ length work.old) }
     requires apart { Apart prev c to c × Apart cur c to c }
     ensures { work.new ≡ put_at work.old to (averages_row c (part plane.now row (2 * c)) (part work.old prev c) (part work.old cur c)) }
 {

@@ -10,16 +10,14 @@ use Rattle.assembly.proofs.measure.Goals as goal
 
 pub groups_refusal-groups-requires : goal.groups_refusal-groups-requires
 groups_refusal-groups-requires c =
-    let m = c in
-    let x = m.args in
-    let e = m.measure_all-records.ensures in
+    let x = c.args in
+    let e = c.measure_all-records.ensures in
     rw e.0 (units_small (units_in x.w x.h x.work.now) e.2)
 
 pub all_units-total-requires : goal.all_units-total-requires
 all_units-total-requires c =
-    let m = c in
-    let x = m.args in
-    let e = m.measure_all-records.ensures in
+    let x = c.args in
+    let e = c.measure_all-records.ensures in
     rw e.0 (units_small (units_in x.w x.h x.work.now) e.2)
 
 pub returns : goal.returns

@@ -12,10 +12,9 @@ use Rattle.assembly.proofs.measure_in.Goals as goal
 -- it lies in the work slice
 within : (c : After-locate-l) → c.locate-l.result.end ≤ length c.args.work.now
 within c =
-    let s = c in
-    let x = s.args in
+    let x = c.args in
     let e = c.locate-l.ensures in
-    in-fits x.w x.h x.work.now s.requires.0 x.p s.requires.1 c.locate-l.result e.0 e.1 e.2
+    in-fits x.w x.h x.work.now c.requires.0 x.p c.requires.1 c.locate-l.result e.0 e.1 e.2
 
 pub measure_packet-requires : goal.measure_packet-requires
 measure_packet-requires c =

@@ -13,17 +13,15 @@ use Rattle.assembly.proofs.put_in.Goals as goal
 -- it lies in the work slice, as packet p
 within : (c : After-locate-l) → c.locate-l.result.end ≤ length c.args.work.now
 within c =
-    let s = c in
-    let x = s.args in
+    let x = c.args in
     let e = c.locate-l.ensures in
-    in-fits x.w x.h x.work.now s.requires.0 x.p s.requires.1 c.locate-l.result e.0 e.1 e.2
+    in-fits x.w x.h x.work.now c.requires.0 x.p c.requires.1 c.locate-l.result e.0 e.1 e.2
 
 part-is : (c : After-locate-l) → take (c.locate-l.result.end - c.locate-l.result.start) (drop c.locate-l.result.start c.args.work.now) ≡ numbers_in c.args.w c.args.h c.args.work.now c.args.p
 part-is c =
-    let s = c in
-    let x = s.args in
+    let x = c.args in
     let e = c.locate-l.ensures in
-    in-part x.w x.h x.work.now s.requires.0 x.p s.requires.1 c.locate-l.result e.0 e.1 e.2
+    in-part x.w x.h x.work.now c.requires.0 x.p c.requires.1 c.locate-l.result e.0 e.1 e.2
 
 less : (a b n : ℕ) → a + b < n → b < n
 less a b n h = omega arith

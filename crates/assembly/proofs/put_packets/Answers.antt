@@ -24,24 +24,22 @@ loop-p-init c =
 -- its units, which are left
 found : (c : In-loop-p) → get_or c.args.units.now c.loop-p.p 0 ≡ units_in c.args.w c.args.h c.args.work.now c.loop-p.p
 found c =
-    let s = c in
-    let x = s.args in
+    let x = c.args in
     let p = c.loop-p.p in
-    (λ i. get_or (s.requires.1 i) p 0) ∙ get_or-tab 13 (units_in x.w x.h x.work.now) p 0 c.loop-p-test.true
+    (λ i. get_or (c.requires.1 i) p 0) ∙ get_or-tab 13 (units_in x.w x.h x.work.now) p 0 c.loop-p-test.true
 
 sum-within : (f : ℕ → ℕ) (p n : ℕ) → p < n → sum f p + f p ≤ sum f n
 sum-within f p n h = let e : p + 1 + (n - (p + 1)) ≡ n = omega arith in omega (arith, sum-on f p, sum-add f (p + 1) (n - (p + 1)), ap (sum f) e)
 
 within : (c : In-loop-p) → c.loop-p.at + 16 * get_or c.args.units.now c.loop-p.p 0 ≤ length c.loop-p.out
 within c =
-    let s = c in
-    let x = s.args in
+    let x = c.args in
     let i = c.loop-p.invariant in
     let p = c.loop-p.p in
-    rw (found c) (omega (arith, i.1, i.2, s.requires.3, sum-within (units_in x.w x.h x.work.now) p 13 c.loop-p-test.true))
+    rw (found c) (omega (arith, i.1, i.2, c.requires.3, sum-within (units_in x.w x.h x.work.now) p 13 c.loop-p-test.true))
 
 s-long : (c : In-loop-p) → length c.args.units.now ≡ 13
-s-long c = let s = c in ap length s.requires.1 ∙ length-tab 13 (units_in s.args.w s.args.h s.args.work.now)
+s-long c = ap length c.requires.1 ∙ length-tab 13 (units_in c.args.w c.args.h c.args.work.now)
 
 pub put_in-requires : goal.put_in-requires
 put_in-requires c =

@@ -11,39 +11,36 @@ use Rattle.bits.proofs.zeros_ahead.Goals as goal
 pub loop-passed-init : goal.loop-passed-init
 loop-passed-init c =
     let a = c.args in
-    (bits_none a.packet.now a.place, c.requires.cache_value ∙ ap (λ (p : ℕ). bits_at a.packet.now p 57) (sym (add-zero a.place)), omega arith, omega arith)
+    (bits_none a.packet.now a.place, c.requires.loaded ∙ ap (λ (p : ℕ). bits_at a.packet.now p 57) (sym (add-zero a.place)), omega arith, omega arith)
 
 pub returns-then-passed-z : goal.returns-then-passed-z
 returns-then-passed-z c =
-    let l = c in
-    let a = l.args in
+    let a = c.args in
     let s = a.packet.now in
-    let z = count_leading_zeros 64 l.loop-passed.word in
-    let v = l.loop-passed.passed in
-    let found = lead-zeros s (a.place + v) l.loop-passed.word z l.loop-passed.invariant.2 l.loop-passed.invariant.1 refl (omega arith) in
-    let count = zeros-after s a.place v a.limit l.loop-passed.invariant.0 (omega arith)
+    let z = count_leading_zeros 64 c.loop-passed.word in
+    let v = c.loop-passed.passed in
+    let found = lead-zeros s (a.place + v) c.loop-passed.word z c.loop-passed.invariant.2 c.loop-passed.invariant.1 refl (omega arith) in
+    let count = zeros-after s a.place v a.limit c.loop-passed.invariant.0 (omega arith)
     ∙ ap (λ (n : ℕ). v + n) (zeros-found s (a.place + v) z (a.limit - v) found.0 found.1 (omega arith)) in
     (sym count, omega arith)
 
 pub returns-then-z-lt57 : goal.returns-then-z-lt57
 returns-then-z-lt57 c =
-    let l = c in
-    let a = l.args in
+    let a = c.args in
     let s = a.packet.now in
-    let z = count_leading_zeros 64 l.loop-passed.word in
-    let v = l.loop-passed.passed in
-    let found = lead-zeros s (a.place + v) l.loop-passed.word z l.loop-passed.invariant.2 l.loop-passed.invariant.1 refl (omega arith) in
-    let none = zero-prefix s a.place a.limit (v + z) (zeros-join s a.place v z l.loop-passed.invariant.0 found.0) (omega arith) in
+    let z = count_leading_zeros 64 c.loop-passed.word in
+    let v = c.loop-passed.passed in
+    let found = lead-zeros s (a.place + v) c.loop-passed.word z c.loop-passed.invariant.2 c.loop-passed.invariant.1 refl (omega arith) in
+    let none = zero-prefix s a.place a.limit (v + z) (zeros-join s a.place v z c.loop-passed.invariant.0 found.0) (omega arith) in
     (sym (zeros-all s a.place a.limit none), omega arith)
 
 pub loop-passed-preserved : goal.loop-passed-preserved
 loop-passed-preserved c =
-    let l = c in
-    let a = l.args in
+    let a = c.args in
     let s = a.packet.now in
-    let v = l.loop-passed.passed in
-    let none = lead-none s (a.place + v) l.loop-passed.word l.loop-passed.invariant.2 l.loop-passed.invariant.1 (omega arith) in
-    (zeros-join s a.place v 57 l.loop-passed.invariant.0 none, c.window-word.ensures, omega arith, omega arith)
+    let v = c.loop-passed.passed in
+    let none = lead-none s (a.place + v) c.loop-passed.word c.loop-passed.invariant.2 c.loop-passed.invariant.1 (omega arith) in
+    (zeros-join s a.place v 57 c.loop-passed.invariant.0 none, c.window-word.ensures, omega arith, omega arith)
 
 pub returns : goal.returns
 returns c =

@@ -8,15 +8,13 @@ returns-then-not-fits c = let no = sym c.fits.ensures ∙ c.if-not-fits.true in 
 
 pub decode_packet-counts-requires : goal.decode_packet-counts-requires
 decode_packet-counts-requires c =
-    let e = c in
-    let told = together-holds _ _ _ _ _ (sym e.fits.ensures ∙ e.if-not-fits.false) in
-    record { in_bounds = told.0; n_bound = told.1 }
+    let told = together-holds _ _ _ _ _ (sym c.fits.ensures ∙ c.if-not-fits.false) in
+    record { in_bounds = told.0; lent = told.1 }
 
 pub returns : goal.returns
 returns c =
     let d = c.decode_packet-counts in
-    let e = c in
-    let yes = sym e.fits.ensures ∙ e.if-not-fits.false in
+    let yes = sym c.fits.ensures ∙ c.if-not-fits.false in
     let counts = d.ensures.value in
     record {
       value = simp yes (λ j. record { together = 1; broken = (counts j).broken; spent = (counts j).spent; bits = (counts j).bits });

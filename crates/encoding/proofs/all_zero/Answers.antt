@@ -15,13 +15,11 @@ loop-x-init c = (omega arith, sum-none (λ i. nat_abs (line c.args.l.now i)))
 
 pub returns-then-at-ne0 : goal.returns-then-at-ne0
 returns-then-at-ne0 c =
-    let h = c in
-    some_in h.args.l.now h.loop-x.x (search rules) (λ q. omega (arith, q, c.at.ensures.0, c.if-at-ne0.true))
+    some_in c.args.l.now c.loop-x.x (search rules) (λ q. omega (arith, q, c.at.ensures.0, c.if-at-ne0.true))
 
 pub loop-x-preserved : goal.loop-x-preserved
 loop-x-preserved c =
-    let h = c in
-    (omega arith, omega (arith, sum-on (λ i. nat_abs (line h.args.l.now i)) h.loop-x.x, h.loop-x.invariant.1, c.at.ensures.0, c.if-at-ne0.false))
+    (omega arith, omega (arith, sum-on (λ i. nat_abs (line c.args.l.now i)) c.loop-x.x, c.loop-x.invariant.1, c.at.ensures.0, c.if-at-ne0.false))
 
 pub returns : goal.returns
 returns c =

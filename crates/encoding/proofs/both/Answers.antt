@@ -24,4 +24,4 @@ pub returns : goal.returns
 returns c =
     let s = c.args in
     let p = c.requires in
-    rw c.power.ensures.0 (record { v_value = number-join s.a.n s.a.v s.b.n s.b.v p.2; n_value = (refl, joined-lt s.a.v s.a.n s.b.n s.b.v p.1 p.2) })
+    rw c.power.ensures.0 (record { bits = number-join s.a.n s.a.v s.b.n s.b.v p.2; size = (refl, joined-lt s.a.v s.a.n s.b.n s.b.v p.1 p.2) })

@@ -10,13 +10,12 @@ overflow_sub-k c =
     let f = (goal.at.overflow_sub-k c).After-finish-r in
     let s = f in
     let e = f.finish-r.ensures in
-    place-within _ _ _ _ s.requires e.appends e.held_value
+    place-within _ _ _ _ s.requires e.appends e.none_held
 
 pub put_zeros-requires : goal.put_zeros-requires
 put_zeros-requires c =
-    let f = c in
-    let a = f.finish-r.ensures.appends in
-    record { few = a.few; small = a.small; room = omega (arith, f.finish-r.ensures.held_value, a.long, overflow_sub-k (goal.at.put_zeros-requires c).After-struct_known-1) }
+    let a = c.finish-r.ensures.appends in
+    record { few = a.few; small = a.small; room = omega (arith, c.finish-r.ensures.none_held, a.long, overflow_sub-k (goal.at.put_zeros-requires c).After-struct_known-1) }
 
 pub returns : goal.returns
 returns c =
@@ -24,4 +23,4 @@ returns c =
     let f = (goal.at.After-put_zeros p).After-finish-r in
     let s = f in
     let e = f.finish-r.ensures in
-    filled-up _ _ _ _ s.requires e.appends e.held_value _ _ _ refl p.put_zeros.ensures (λ i. omega (arith, c.slice_known-3-1.given i))
+    filled-up _ _ _ _ s.requires e.appends e.none_held _ _ _ refl p.put_zeros.ensures (λ i. omega (arith, c.slice_known-3-1.given i))

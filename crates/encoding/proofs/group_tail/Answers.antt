@@ -9,8 +9,8 @@ returns-then-g-le1 c =
     let s = c.args in
     let e = c.signs-s.ensures in
     record {
-      v_value = rw (next_last (line s.row.now) s.j s.g (omega arith)) e.v_value;
-      n_bound = (omega (arith, e.n_bound), e.n_bound.1);
+      bits = rw (next_last (line s.row.now) s.j s.g (omega arith)) e.bits;
+      size = (omega (arith, e.size), e.size.1);
     }
 
 pub returns : goal.returns
@@ -22,6 +22,6 @@ returns c =
     let d = c.both.ensures in
     let n = next_more (line s.row.now) s.j s.g (omega arith) in
     record {
-      v_value = rw (n, d.v_value, u.v_value, e.v_value, ← p.3, ← p.4);
-      n_bound = (omega (arith, e.n_bound, d.n_value, u.n_bound), d.n_value.1);
+      bits = rw (n, d.bits, u.bits, e.bits, ← p.3, ← p.4);
+      size = (omega (arith, e.size, d.size, u.size), d.size.1);
     }

@@ -21,17 +21,15 @@ loop-q-init c =
 -- row q lies within the list
 within : (c : In-loop-q) → c.loop-q.a + c.args.cols ≤ length c.args.l.now
 within c =
-    let s = c in
     let l = c.loop-q in
-    row_fits s.args.l.now s.args.cols s.args.n l.q l.a s.requires.2 (search rules) l.invariant.1
+    row_fits c.args.l.now c.args.cols c.args.n l.q l.a c.requires.2 (search rules) l.invariant.1
 
 pub measure_row-bits-requires : goal.measure_row-bits-requires
 measure_row-bits-requires c =
-    let s = c in
     let l = c.loop-q in
-    let x = s.args in
-    let long = row-length x.l.now x.cols x.n l.q l.a s.requires.2 (search rules) l.invariant.1 in
-    (omega (arith, long, s.requires.0), part_small x.l.now l.a (l.a + x.cols - l.a) s.requires.3)
+    let x = c.args in
+    let long = row-length x.l.now x.cols x.n l.q l.a c.requires.2 (search rules) l.invariant.1 in
+    (omega (arith, long, c.requires.0), part_small x.l.now l.a (l.a + x.cols - l.a) c.requires.3)
 
 pub loop-q-preserved : goal.loop-q-preserved
 loop-q-preserved c =
@@ -47,10 +45,9 @@ loop-q-preserved c =
 
 pub returns : goal.returns
 returns c =
-    let s = c in
     let l = c.loop-q in
-    let e : l.q ≡ s.args.n = omega (arith, l.invariant.0) in
-    (l.invariant.2 ∙ ap (λ (q : ℕ). length (rows_in s.args.cols s.args.l.now q)) e, omega (arith, e, l.invariant.3))
+    let e : l.q ≡ c.args.n = omega (arith, l.invariant.0) in
+    (l.invariant.2 ∙ ap (λ (q : ℕ). length (rows_in c.args.cols c.args.l.now q)) e, omega (arith, e, l.invariant.3))
 
 pub overflow_add-end : goal.overflow_add-end
 overflow_add-end c = omega (arith, within c)

@@ -12,18 +12,16 @@ use Rattle.encoding.proofs.put_record.Goals as goal
 
 pub returns-then-all_zero : goal.returns-then-all_zero
 returns-then-all_zero c =
-    let s = c in
-    let x = s.args in
+    let x = c.args in
     let z = record-none x.cols x.n x.l.now (sym c.all_zero.ensures ∙ c.if-all_zero.true) in
-    let p = s.requires.4 in
-    (appends-same _ _ _ _ _ _ (sym (ap (filled 8) z ∙ filled_none)) (appends-none _ _ p.few p.small), s.requires.5)
+    let p = c.requires.4 in
+    (appends-same _ _ _ _ _ _ (sym (ap (filled 8) z ∙ filled_none)) (appends-none _ _ p.few p.small), c.requires.5)
 
 pub put_rows-requires : goal.put_rows-requires
 put_rows-requires c =
-    let s = c in
-    let x = s.args in
+    let x = c.args in
     let z = record-some x.cols x.n x.l.now (sym c.all_zero.ensures ∙ c.if-all_zero.false) in
-    (s.requires.0, s.requires.1, s.requires.2, s.requires.3, room-less _ _ _ _ s.requires.4 (omega (arith, length-filled (record_in x.cols x.n x.l.now), ap length z)))
+    (c.requires.0, c.requires.1, c.requires.2, c.requires.3, room-less _ _ _ _ c.requires.4 (omega (arith, length-filled (record_in x.cols x.n x.l.now), ap length z)))
 
 pub finish-requires : goal.finish-requires
 finish-requires c =
@@ -40,4 +38,4 @@ returns c =
     let s = r in
     let x = s.args in
     let z = record-some x.cols x.n x.l.now (sym r.all_zero.ensures ∙ r.if-all_zero.false) in
-    (appends-same _ _ _ _ _ _ (ap (filled 8) (sym z)) (appends-filled _ _ _ _ _ _ _ s.requires.5 r.put_rows.ensures f.finish.ensures.appends), f.finish.ensures.held_value)
+    (appends-same _ _ _ _ _ _ (ap (filled 8) (sym z)) (appends-filled _ _ _ _ _ _ _ s.requires.5 r.put_rows.ensures f.finish.ensures.appends), f.finish.ensures.none_held)

@@ -17,21 +17,19 @@ use Rattle.encoding.proofs.put_row.Goals as goal
 
 pub update_code-c-requires : goal.update_code-c-requires
 update_code-c-requires c =
-    let s = c in
-    (omega arith, rw c.width_of-w.ensures.0 (omega (arith, width-most (line s.args.row.now) s.requires.1 0)))
+    (omega arith, rw c.width_of-w.ensures.0 (omega (arith, width-most (line c.args.row.now) c.requires.1 0)))
 
 -- the bits of the first width
 first-bits : (c : After-update_code-c) → length (update_bits 0 (group_width (line c.args.row.now) 0)) ≡ c.update_code-c.result.n
-first-bits c = ap length (sym (rw c.width_of-w.ensures.0 at c.update_code-c.ensures.v_value)) ∙ length-number _ _
+first-bits c = ap length (sym (rw c.width_of-w.ensures.0 at c.update_code-c.ensures.bits)) ∙ length-number _ _
 
 all-bits : (l : List ℤ) → length (row_bits (length l) (line l)) ≡ length (update_bits 0 (group_width (line l) 0)) + length (rest_bits (line l) 0 ((length l + 3) / 4))
 all-bits l = ap length (row_of l) ∙ length-append (update_bits 0 (group_width (line l) 0)) (rest_bits (line l) 0 ((length l + 3) / 4))
 
 pub put-r-requires : goal.put-r-requires
 put-r-requires c =
-    let s = c in
     let u = c.update_code-c.ensures in
-    (omega (arith, u.n_bound), u.n_bound.1, room-less _ _ _ _ s.requires.2 (omega (arith, first-bits (goal.at.put-r-requires c).After-update_code-c, all-bits s.args.row.now)))
+    (omega (arith, u.size), u.size.1, room-less _ _ _ _ c.requires.2 (omega (arith, first-bits (goal.at.put-r-requires c).After-update_code-c, all-bits c.args.row.now)))
 
 pub loop-j-init : goal.loop-j-init
 loop-j-init c =
@@ -47,8 +45,7 @@ loop-j-init c =
 
 pub turn_at-t-requires : goal.turn_at-t-requires
 turn_at-t-requires c =
-    let s = c in
-    (omega (arith, s.requires.0), omega arith, c.loop-j.invariant.1, s.requires.1)
+    (omega (arith, c.requires.0), omega arith, c.loop-j.invariant.1, c.requires.1)
 
 pub values-v-requires : goal.values-v-requires
 values-v-requires c =
@@ -66,16 +63,16 @@ put-r-requires-in-loop-j c =
     let s = l in
     let f = line s.args.row.now in
     let e = t.turn_at-t.ensures in
-    let n = ap length e.v_value in
+    let n = ap length e.bits in
     let done = appends-same _ _ _ _ _ _ (ap (λ (k : ℕ). value_bits f k l.loop-j.j) l.loop-j.invariant.1) v.values-v.ensures in
-    (e.le_groups.2, e.le_groups.3, room-less _ _ _ _ (room-tail f _ _ _ _ _ _ _ l.loop-j.j (omega arith) l.loop-j.invariant.2 done) (omega (arith, n, length-number t.turn_at-t.result.n t.turn_at-t.result.v)))
+    (e.bounds.2, e.bounds.3, room-less _ _ _ _ (room-tail f _ _ _ _ _ _ _ l.loop-j.j (omega arith) l.loop-j.invariant.2 done) (omega (arith, n, length-number t.turn_at-t.result.n t.turn_at-t.result.v)))
 
 pub overflow_add-j : goal.overflow_add-j
 overflow_add-j c =
     let t = (goal.at.overflow_add-j c).After-turn_at-t in
     let l = (goal.at.After-turn_at-t t).At-loop-j in
     let s = l in
-    omega (arith, t.turn_at-t.ensures.le_groups, l.loop-j.invariant.0, s.requires.0)
+    omega (arith, t.turn_at-t.ensures.bounds, l.loop-j.invariant.0, s.requires.0)
 
 pub loop-j-preserved : goal.loop-j-preserved
 loop-j-preserved c =
@@ -87,8 +84,8 @@ loop-j-preserved c =
     let f = line s.args.row.now in
     let e = t.turn_at-t.ensures in
     let done = appends-same _ _ _ _ _ _ (ap (λ (k : ℕ). value_bits f k l.loop-j.j) l.loop-j.invariant.1) v.values-v.ensures in
-    let tail = appends-same _ _ _ _ _ _ e.v_value p.put-r-in-loop-j.ensures in
-    (omega (arith, e.le_groups), e.groups_value.1, progress-next f _ _ _ _ _ _ _ _ _ l.loop-j.j t.turn_at-t.result.groups (omega arith) e.groups_value.0 l.loop-j.invariant.2 done tail)
+    let tail = appends-same _ _ _ _ _ _ e.bits p.put-r-in-loop-j.ensures in
+    (omega (arith, e.bounds), e.groups.1, progress-next f _ _ _ _ _ _ _ _ _ l.loop-j.j t.turn_at-t.result.groups (omega arith) e.groups.0 l.loop-j.invariant.2 done tail)
 
 pub returns : goal.returns
 returns c =
@@ -97,7 +94,7 @@ returns c =
     let d = (goal.at.After-put-r p).After-update_code-c in
     let s = d in
     let row = s.args.row.now in
-    let first = rw d.width_of-w.ensures.0 at d.update_code-c.ensures.v_value in
+    let first = rw d.width_of-w.ensures.0 at d.update_code-c.ensures.bits in
     appends-both _ _ _ _ _ _ _ _ _ (appends-same _ _ _ _ _ _ first p.put-r.ensures) (progress-end (line row) ((length row + 3) / 4) _ _ _ _ l.loop-j.j (omega arith) l.loop-j.invariant.2) (sym (row_of row))
 
 pub shape_of-out : goal.shape_of-out
@@ -116,4 +113,4 @@ pub overflow_sub-g : goal.overflow_sub-g
 overflow_sub-g c = omega arith
 
 pub loop-j-smaller : goal.loop-j-smaller
-loop-j-smaller c = omega (arith, c.turn_at-t.ensures.le_groups)
+loop-j-smaller c = omega (arith, c.turn_at-t.ensures.bounds)

@@ -16,16 +16,14 @@ use Rattle.encoding.proofs.put_rows.Goals as goal
 
 pub loop-q-init : goal.loop-q-init
 loop-q-init c =
-    let s = c in
-    let p = s.requires.4 in
-    (omega arith, omega arith, appends-same _ _ _ _ _ _ (sym (rows_none (λ q. row_bits s.args.cols (line (row s.args.cols s.args.l.now q))))) (appends-none _ _ p.few p.small))
+    let p = c.requires.4 in
+    (omega arith, omega arith, appends-same _ _ _ _ _ _ (sym (rows_none (λ q. row_bits c.args.cols (line (row c.args.cols c.args.l.now q))))) (appends-none _ _ p.few p.small))
 
 -- row q lies within the list
 within : (c : In-loop-q) → c.loop-q.a + c.args.cols ≤ length c.args.l.now
 within c =
-    let s = c in
     let l = c.loop-q in
-    row_fits s.args.l.now s.args.cols s.args.n l.q l.a s.requires.2 (search rules) l.invariant.1
+    row_fits c.args.l.now c.args.cols c.args.n l.q l.a c.requires.2 (search rules) l.invariant.1
 
 pub put_row-r-requires : goal.put_row-r-requires
 put_row-r-requires c =
@@ -52,10 +50,9 @@ loop-q-preserved c =
 
 pub returns : goal.returns
 returns c =
-    let s = c in
     let l = c.loop-q in
-    let e : l.q ≡ s.args.n = omega (arith, l.invariant.0) in
-    appends-same _ _ _ _ _ _ (ap (rows_in s.args.cols s.args.l.now) e) l.invariant.2
+    let e : l.q ≡ c.args.n = omega (arith, l.invariant.0) in
+    appends-same _ _ _ _ _ _ (ap (rows_in c.args.cols c.args.l.now) e) l.invariant.2
 
 pub overflow_add-end : goal.overflow_add-end
 overflow_add-end c = omega (arith, within c)

@@ -22,16 +22,14 @@ put-r-requires c =
 
 pub loop-i-preserved : goal.loop-i-preserved
 loop-i-preserved c =
-    let p = c in
-    let l = p.loop-i in
+    let l = c.loop-i in
     let e : 8 * l.i + 8 ≡ 8 * (l.i + 1) = omega arith in
-    (omega arith, appends-both _ _ _ _ _ _ _ _ _ l.invariant.1 (appends-same _ _ _ _ _ _ (number-zeros 8) p.put-r.ensures) (replicate-append-replicate (8 * l.i) 8 0 ∙ ap zero_bits e))
+    (omega arith, appends-both _ _ _ _ _ _ _ _ _ l.invariant.1 (appends-same _ _ _ _ _ _ (number-zeros 8) c.put-r.ensures) (replicate-append-replicate (8 * l.i) 8 0 ∙ ap zero_bits e))
 
 pub returns : goal.returns
 returns c =
-    let s = c in
     let l = c.loop-i in
-    let e : l.i ≡ s.args.k = omega (arith, l.invariant.0) in
+    let e : l.i ≡ c.args.k = omega (arith, l.invariant.0) in
     appends-same _ _ _ _ _ _ (ap (λ (k : ℕ). zero_bits (8 * k)) e) l.invariant.1
 
 pub shape_of-out : goal.shape_of-out

@@ -13,11 +13,10 @@ returns-then-all_zero c =
 
 pub returns : goal.returns
 returns c =
-    let s = c in
-    let x = s.args in
+    let x = c.args in
     let z = record-some x.cols x.n x.l.now (sym c.all_zero.ensures ∙ c.if-all_zero.false) in
     let e = c.measure_rows.ensures in
-    (omega (arith, ap length z, e.0), omega (arith, e.1, s.requires.1))
+    (omega (arith, ap length z, e.0), omega (arith, e.1, c.requires.1))
 
 pub overflow_add-result : goal.overflow_add-result
 overflow_add-result c = omega (arith, c.measure_rows.ensures.1, c.requires.1)

@@ -13,7 +13,7 @@ returns-then-k-g c =
     let s = c.args in
     let e = c.bit_length.ensures.0 in
     let m = length_most (s.g - 1) (omega arith) 16 (omega arith) in
-    rw e (record { v_value = code-whole s.g s.k (search rules); n_bound = (omega (arith, m), pow_pos (bit_length (s.g - 1))) })
+    rw e (record { bits = code-whole s.g s.k (search rules); size = (omega (arith, m), pow_pos (bit_length (s.g - 1))) })
 
 pub overflow_sub-z : goal.overflow_sub-z
 overflow_sub-z c =
@@ -26,4 +26,4 @@ returns c =
     let s = c.args in
     let e = c.bit_length-z.ensures.0 in
     let m = part-most s.k (omega arith) in
-    rw e (record { v_value = code-part s.g s.k (omega arith) (omega arith) (omega arith); n_bound = (omega (arith, m.0), m.1) })
+    rw e (record { bits = code-part s.g s.k (omega arith) (omega arith) (omega arith); size = (omega (arith, m.0), m.1) })

@@ -11,8 +11,8 @@ returns-then-k-g c =
     let s = c.args in
     let e = c.run_code-c.ensures in
     record {
-      v_value = e.v_value ∙ sym (tail-whole s.g s.k s.next (search rules));
-      n_bound = (omega (arith, e.n_bound), e.n_bound.1);
+      bits = e.bits ∙ sym (tail-whole s.g s.k s.next (search rules));
+      size = (omega (arith, e.size), e.size.1);
     }
 
 pub both-requires : goal.both-requires
@@ -21,7 +21,7 @@ both-requires c =
     let p = c.requires in
     let e = c.run_code-c.ensures in
     let some = p.4 (omega arith) in
-    (omega (arith, e.n_bound), e.n_bound.1, two-more s.next some)
+    (omega (arith, e.size), e.size.1, two-more s.next some)
 
 pub returns : goal.returns
 returns c =
@@ -31,6 +31,6 @@ returns c =
     let d = c.both.ensures in
     let some = p.4 (omega arith) in
     record {
-      v_value = d.v_value ∙ rw (e.v_value, number-unary s.next some) (sym (tail-part s.g s.k s.next (λ q. omega (arith, c.if-k-g.false))));
-      n_bound = (omega (arith, e.n_bound, d.n_value), d.n_value.1);
+      bits = d.bits ∙ rw (e.bits, number-unary s.next some) (sym (tail-part s.g s.k s.next (λ q. omega (arith, c.if-k-g.false))));
+      size = (omega (arith, e.size, d.size), d.size.1);
     }

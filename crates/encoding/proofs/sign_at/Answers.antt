@@ -22,6 +22,6 @@ returns c =
     let a = c.args in
     let e : get_or a.row.now a.x (pos 0) ≡ pos 0 = get_or-eq_default a.row.now (pos 0) (omega arith) in
     record {
-      v_value = rw e refl;
-      n_bound = (omega arith, omega arith);
+      bits = rw e refl;
+      size = (omega arith, omega arith);
     }

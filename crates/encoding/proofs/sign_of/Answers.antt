@@ -10,8 +10,8 @@ returns-then-z-lt0 c =
     let z = c.args.z in
     let e = to_z-of_z w32 z c.ranges.z in
     record {
-      v_value = sign-neg z (rw e at c.if-z-lt0.true);
-      n_bound = (omega arith, omega arith);
+      bits = sign-neg z (rw e at c.if-z-lt0.true);
+      size = (omega arith, omega arith);
     }
 
 pub returns-then-z-gt0 : goal.returns-then-z-gt0
@@ -19,8 +19,8 @@ returns-then-z-gt0 c =
     let z = c.args.z in
     let e = to_z-of_z w32 z c.ranges.z in
     record {
-      v_value = sign_pos z (rw e at c.if-z-gt0.true);
-      n_bound = (omega arith, omega arith);
+      bits = sign_pos z (rw e at c.if-z-gt0.true);
+      size = (omega arith, omega arith);
     }
 
 pub returns : goal.returns
@@ -28,6 +28,6 @@ returns c =
     let z = c.args.z in
     let e = to_z-of_z w32 z c.ranges.z in
     record {
-      v_value = sign-none z (rw e at c.if-z-lt0.false) (rw e at c.if-z-gt0.false);
-      n_bound = (omega arith, omega arith);
+      bits = sign-none z (rw e at c.if-z-lt0.false) (rw e at c.if-z-gt0.false);
+      size = (omega arith, omega arith);
     }

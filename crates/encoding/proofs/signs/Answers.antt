@@ -19,6 +19,6 @@ returns c =
     let s2 = c6.sign_at.ensures in
     let s3 = c5.sign_at-2.ensures in
     record {
-      v_value = rw (e3.v_value, e2.v_value, e1.v_value, s0.v_value, s1.v_value, s2.v_value, s3.v_value);
-      n_bound = (omega (arith, e3.n_value, e2.n_value, e1.n_value, s0.n_bound, s1.n_bound, s2.n_bound, s3.n_bound), e3.n_value.1);
+      bits = rw (e3.bits, e2.bits, e1.bits, s0.bits, s1.bits, s2.bits, s3.bits);
+      size = (omega (arith, e3.size, e2.size, e1.size, s0.size, s1.size, s2.size, s3.size), e3.size.1);
     }

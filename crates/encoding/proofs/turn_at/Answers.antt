@@ -28,9 +28,9 @@ returns-then-w-eq0 c =
     let z = p.2 in
     let r = turn-run f s.j s.g (omega (arith, z)) in
     record {
-      groups_value = (k.0 ∙ sym r.0, w);
-      v_value = t.v_value ∙ rw (w, k.0) (sym r.1);
-      le_groups = (rw k.0 (run-some f s.j s.g (omega (arith, z)) (omega arith)), k.1, t.n_bound.0, t.n_bound.1);
+      groups = (k.0 ∙ sym r.0, w);
+      bits = t.bits ∙ rw (w, k.0) (sym r.1);
+      bounds = (rw k.0 (run-some f s.j s.g (omega (arith, z)) (omega arith)), k.1, t.size.0, t.size.1);
     }
 
 pub group_tail-c-requires : goal.group_tail-c-requires
@@ -50,7 +50,7 @@ returns c =
     let t = c.group_tail-c.ensures in
     let r = turn-group f s.j s.g (λ q. omega (arith, p.2, q, c.if-w-eq0.false)) in
     record {
-      groups_value = (sym r.0, w);
-      v_value = t.v_value ∙ sym r.1;
-      le_groups = (omega arith, omega arith, t.n_bound.0, t.n_bound.1);
+      groups = (sym r.0, w);
+      bits = t.bits ∙ sym r.1;
+      bounds = (omega arith, omega arith, t.size.0, t.size.1);
     }

@@ -13,5 +13,4 @@ put-requires c =
 
 pub returns-then-w-le14 : goal.returns-then-w-le14
 returns-then-w-le14 c =
-    let p = c in
-    appends-same _ _ _ _ _ _ p.four-c.ensures.0 p.put.ensures
+    appends-same _ _ _ _ _ _ c.four-c.ensures.0 c.put.ensures

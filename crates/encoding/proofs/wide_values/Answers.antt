@@ -11,17 +11,15 @@ use Rattle.encoding.proofs.wide_values.Goals as goal
 
 pub put-b1-requires : goal.put-b1-requires
 put-b1-requires c =
-    let c3 = c in
-    let s = c3.args in
-    let p = c3.requires in
+    let s = c.args in
+    let p = c.requires in
     let f = line s.row.now in
     (omega (arith, p.1, width-most f p.2 s.j), rw (c.at.ensures.0, p.1) (held-0 f p.2 s.j), room-less s.out.now s.b (4 * s.w) s.w p.3 (omega arith))
 
 pub put-b2-requires : goal.put-b2-requires
 put-b2-requires c =
-    let c8 = c in
-    let s = c8.args in
-    let p = c8.requires in
+    let s = c.args in
+    let p = c.requires in
     let f = line s.row.now in
     let n1 = length-number s.w c.at.result in
     let r1 = room_after _ _ _ _ _ (4 * s.w) (3 * s.w) p.3 c.put-b1.ensures (omega (arith, n1)) in
@@ -29,9 +27,8 @@ put-b2-requires c =
 
 pub put-b3-requires : goal.put-b3-requires
 put-b3-requires c =
-    let c13 = c in
-    let s = c13.args in
-    let p = c13.requires in
+    let s = c.args in
+    let p = c.requires in
     let f = line s.row.now in
     let n1 = length-number s.w c.at.result in
     let n2 = length-number s.w c.at-2.result in
@@ -41,9 +38,8 @@ put-b3-requires c =
 
 pub put-requires : goal.put-requires
 put-requires c =
-    let c18 = c in
-    let s = c18.args in
-    let p = c18.requires in
+    let s = c.args in
+    let p = c.requires in
     let f = line s.row.now in
     let n1 = length-number s.w c.at.result in
     let n2 = length-number s.w c.at-2.result in

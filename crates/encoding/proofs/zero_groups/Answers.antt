@@ -18,27 +18,24 @@ loop-k-init c =
 
 pub returns-then-width_of-ne0 : goal.returns-then-width_of-ne0
 returns-then-width_of-ne0 c =
-    let h = c in
-    let s = h.args in
+    let s = c.args in
     let f : ℕ → ℤ = λ x. get_or s.row.now x (pos 0) in
     let e = c.width_of.ensures.0 in
-    let z = zero-none f (s.j + h.loop-k.k) (s.g - h.loop-k.k) (λ q. omega (arith, e, q, c.if-width_of-ne0.true)) in
-    (omega (arith, h.loop-k.invariant.1, z), h.loop-k.invariant.0)
+    let z = zero-none f (s.j + c.loop-k.k) (s.g - c.loop-k.k) (λ q. omega (arith, e, q, c.if-width_of-ne0.true)) in
+    (omega (arith, c.loop-k.invariant.1, z), c.loop-k.invariant.0)
 
 pub loop-k-preserved : goal.loop-k-preserved
 loop-k-preserved c =
-    let h = c in
-    let s = h.args in
+    let s = c.args in
     let f : ℕ → ℤ = λ x. get_or s.row.now x (pos 0) in
     let e = c.width_of.ensures.0 in
-    (omega arith, zero-on f s.j s.g h.loop-k.k (omega arith) h.loop-k.invariant.1 (omega (arith, e, c.if-width_of-ne0.false)))
+    (omega arith, zero-on f s.j s.g c.loop-k.k (omega arith) c.loop-k.invariant.1 (omega (arith, e, c.if-width_of-ne0.false)))
 
 pub returns : goal.returns
 returns c =
-    let h = c in
-    let s = h.args in
+    let s = c.args in
     let f : ℕ → ℤ = λ x. get_or s.row.now x (pos 0) in
-    let k : h.loop-k.k ≡ s.g = omega (arith, h.loop-k.invariant.0) in
-    let n : s.g - h.loop-k.k ≡ 0 = omega arith in
-    let z = ap (zero_groups f (s.j + h.loop-k.k)) n ∙ zero-end f (s.j + h.loop-k.k) in
-    (omega (arith, h.loop-k.invariant.1, z), omega arith)
+    let k : c.loop-k.k ≡ s.g = omega (arith, c.loop-k.invariant.0) in
+    let n : s.g - c.loop-k.k ≡ 0 = omega arith in
+    let z = ap (zero_groups f (s.j + c.loop-k.k)) n ∙ zero-end f (s.j + c.loop-k.k) in
+    (omega (arith, c.loop-k.invariant.1, z), omega arith)

@@ -6,10 +6,8 @@ use Rattle.fields.proofs.plane_rows.Goals as goal
 
 pub rows_of-requires : goal.rows_of-requires
 rows_of-requires c =
-    let s = c in
-    ((λ e. omega (arith, s.stripes.ensures.0, guarded-some s.args.height (sym c.guarded.ensures ∙ e))), omega (arith, s.stripes.ensures.1))
+    ((λ e. omega (arith, c.stripes.ensures.0, guarded-some c.args.height (sym c.guarded.ensures ∙ e))), omega (arith, c.stripes.ensures.1))
 
 pub returns : goal.returns
 returns c =
-    let g = c in
-    (rw (← g.guarded.ensures, ← g.stripes.ensures.0) c.rows_of.ensures.0, omega (arith, g.stripes.ensures.1, c.rows_of.ensures.1))
+    (rw (← c.guarded.ensures, ← c.stripes.ensures.0) c.rows_of.ensures.0, omega (arith, c.stripes.ensures.1, c.rows_of.ensures.1))

@@ -18,11 +18,10 @@ details-are c = c.rows_in-d.ensures ∙ ap (ring_band _ _) c.top_of-t.ensures
 pub green_rows-requires : goal.green_rows-requires
 green_rows-requires c =
     let d = (goal.at.green_rows-requires c).After-rows_in-d in
-    let h = c in
-    let s = h.args in
+    let s = c.args in
     let z = s.z in
-    let p = h.requires.fits in
-    let q = h.requires.from_bound in
+    let p = c.requires.fits in
+    let q = c.requires.lent in
     let f = p.0 in
     let wide : z.w ≡ 2 * (z.w / 2) = omega (arith, f.0.whole) in
     rw (c.rows_of-r.ensures.0, c.rows_in-l.ensures, details-are d) (
@@ -40,11 +39,10 @@ green_rows-requires c =
 pub returns : goal.returns
 returns c =
     let d = (goal.at.returns c).After-rows_in-d in
-    let h = c in
-    let s = h.args in
+    let s = c.args in
     let e = rw (c.rows_of-r.ensures.0, c.rows_in-l.ensures, details-are d) at c.green_rows.ensures in
-    let f = h.requires.fits.0 in
-    let fit = h.requires.from_bound.1 in
+    let f = c.requires.fits.0 in
+    let fit = c.requires.lent.1 in
     record {
       green_after = (λ a b near. e.0 ∙ near-rows s.z f s.la s.da s.from s.count a b s.work.now near fit);
       same_below = e.1;

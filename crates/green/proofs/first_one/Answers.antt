@@ -10,10 +10,9 @@ use Rattle.green.proofs.first_one.Goals as goal
 pub returns : goal.returns
 unfolding first_of
 returns c =
-    let s = c in
-    let fd = s.ranges.d in
-    let fa = s.ranges.a in
-    let fb = s.ranges.b in
+    let fd = c.ranges.d in
+    let fa = c.ranges.a in
+    let fb = c.ranges.b in
     let f1 : SFits w32 c.wrapping_add.result = sfits_of c.wrapping_add.type_inv in
     let f2 : SFits w32 c.wrapping_add-2.result = sfits_of c.wrapping_add-2.type_inv in
     let e1 = simp to_z-of_z at c.wrapping_add.ensures in

@@ -40,13 +40,12 @@ bounds-dst-x-in-loop-x c = simp length-set (omega arith)
 
 pub loop-x-preserved : goal.loop-x-preserved
 loop-x-preserved c =
-    let h = c in
-    let s = h.args in
+    let s = c.args in
     let d = s.d.now in
     let here = s.here.now in
     let next = s.next.now in
-    let x = h.loop-x.x in
-    let i = h.loop-x.invariant in
+    let x = c.loop-x.x in
+    let i = c.loop-x.invariant in
     let a1 : SFits w32 (at d x) = sfits_of c.even_one-arg-1.given in
     let a2 : SFits w32 (at here (x - 1)) = sfits_of c.even_one-arg-in-loop-x-1.given in
     let a3 : SFits w32 (at next (x - 1)) = sfits_of c.even_one-arg-in-loop-x-2-1.given in
@@ -58,11 +57,10 @@ loop-x-preserved c =
       i.2,
       simp length-set i.3,
       i.4,
-      fill-pair _ h.loop-x.dst x (full_at here next d) _ _ i.5 (omega arith) (r ∙ full-inner here next d x i.0) (to_z-of_z a4 ∙ full-odd here next d x),
+      fill-pair _ c.loop-x.dst x (full_at here next d) _ _ i.5 (omega arith) (r ∙ full-inner here next d x i.0) (to_z-of_z a4 ∙ full-odd here next d x),
     )
 
 pub returns : goal.returns
 returns c =
-    let h = c in
-    let s = h.args in
-    fill_done _ _ (2 * h.loop-x.x) (2 * length s.d.now) (full_at s.here.now s.next.now s.d.now) h.loop-x.invariant.5 (omega arith) (omega arith)
+    let s = c.args in
+    fill_done _ _ (2 * c.loop-x.x) (2 * length s.d.now) (full_at s.here.now s.next.now s.d.now) c.loop-x.invariant.5 (omega arith) (omega arith)

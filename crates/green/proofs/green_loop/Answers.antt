@@ -41,43 +41,40 @@ room k n c h = let m = mul-le-mul_right c h in omega (arith, m)
 
 pub step-requires : goal.step-requires
 step-requires c =
-    let h = c in
-    let i = h.loop-k.invariant in
-    let s = h.args in
-    let p = h.requires in
-    let k = h.loop-k.k in
+    let i = c.loop-k.invariant in
+    let s = c.args in
+    let p = c.requires in
+    let k = c.loop-k.k in
     let t = c.loop-k-test.true in
-    let y : s.from + k < s.r = omega (arith, t, p.le_c.1) in
+    let y : s.from + k < s.r = omega (arith, t, p.in_bounds.1) in
     let m = room k s.count (2 * s.c) t in
-    let e = odd-same h.loop-k.work s.work.now s.d s.l s.c s.r s.at i.9 p.inner.0 p.inner.1 (s.from + k) y in record {
-      le_c = (p.le_c.0, y, i.2, i.3, omega (arith, i.4, i.7, p.le_c.2), omega (arith, i.5, i.7, p.le_c.2), i.6, omega (arith, m, i.1, i.8, p.le_c.3));
+    let e = odd-same c.loop-k.work s.work.now s.d s.l s.c s.r s.at i.9 p.inner.0 p.inner.1 (s.from + k) y in record {
+      in_bounds = (p.in_bounds.0, y, i.2, i.3, omega (arith, i.4, i.7, p.in_bounds.2), omega (arith, i.5, i.7, p.in_bounds.2), i.6, omega (arith, m, i.1, i.8, p.in_bounds.3));
       inner = (p.inner.0, p.inner.1, p.inner.2, p.inner.3, i.10 y ∙ sym e);
     }
 
 pub overflow_add-o : goal.overflow_add-o
 overflow_add-o c =
-    let h = c in
-    let i = h.loop-k.invariant in
-    let s = h.args in
-    let p = h.requires in
-    let m = room h.loop-k.k s.count (2 * s.c) c.loop-k-test.true in
-    omega (arith, m, i.1, i.8, p.le_c.3)
+    let i = c.loop-k.invariant in
+    let s = c.args in
+    let p = c.requires in
+    let m = room c.loop-k.k s.count (2 * s.c) c.loop-k-test.true in
+    omega (arith, m, i.1, i.8, p.in_bounds.3)
 
 pub loop-k-preserved : goal.loop-k-preserved
 loop-k-preserved c =
-    let h = c in
-    let i = h.loop-k.invariant in
-    let s = h.args in
-    let p = h.requires in
+    let i = c.loop-k.invariant in
+    let s = c.args in
+    let p = c.requires in
     let w = s.work.now in
-    let k = h.loop-k.k in
+    let k = c.loop-k.k in
     let t = c.loop-k-test.true in
-    let y : s.from + k < s.r = omega (arith, t, p.le_c.1) in
+    let y : s.from + k < s.r = omega (arith, t, p.in_bounds.1) in
     let d = c.step in
     let z = d.ensures in
     let n : s.from + k + 1 ≡ s.from + (k + 1) = omega arith in
-    let e = full-same h.loop-k.work w s.d s.l s.c s.r s.at i.9 p.inner.0 p.inner.1 (s.from + k) y in
-    let odd = odd-same h.loop-k.work w s.d s.l s.c s.r s.at i.9 p.inner.0 p.inner.1 (s.from + k + 1) in
+    let e = full-same c.loop-k.work w s.d s.l s.c s.r s.at i.9 p.inner.0 p.inner.1 (s.from + k) y in
+    let odd = odd-same c.loop-k.work w s.d s.l s.c s.r s.at i.9 p.inner.0 p.inner.1 (s.from + k + 1) in
     let f : ℕ → List ℤ = λ j. full_g w s.d s.l s.c s.r (s.from + j) in
     let long : (j : ℕ) → length (f j) ≡ 2 * s.c = λ j. length-full w s.d s.l s.c s.r (s.from + j) in (
       omega (arith, t),
@@ -92,17 +89,16 @@ loop-k-preserved c =
       (λ a j b. z.2 a j b ∙ i.9 a j b),
       (λ q. let v : s.from + k + 1 < s.r = omega (arith, q) in
           z.1 v ∙ odd v ∙ ap (odd_g w s.d s.l s.c) n),
-      rw i.1 at z.0 ∙ over-step (2 * s.c) f long s.green.now h.loop-k.green _ k i.11 e,
+      rw i.1 at z.0 ∙ over-step (2 * s.c) f long s.green.now c.loop-k.green _ k i.11 e,
     )
 
 pub returns : goal.returns
 returns c =
-    let h = c in
-    let s = h.args in
-    let p = h.requires in
-    let i = h.loop-k.invariant in
+    let s = c.args in
+    let p = c.requires in
+    let i = c.loop-k.invariant in
     let w = s.work.now in
     let f : ℕ → List ℤ = λ j. full_g w s.d s.l s.c s.r (s.from + j) in
     let long : (j : ℕ) → length (f j) ≡ 2 * s.c = λ j. length-full w s.d s.l s.c s.r (s.from + j) in
-    let done : h.loop-k.k ≡ s.count = omega (arith, i.0, c.loop-k-test.false) in
-    (over_done (2 * s.c) f long s.green.now _ h.loop-k.k s.count i.11 done p.le_c.3, i.9)
+    let done : c.loop-k.k ≡ s.count = omega (arith, i.0, c.loop-k-test.false) in
+    (over_done (2 * s.c) f long s.green.now _ c.loop-k.k s.count i.11 done p.in_bounds.3, i.9)

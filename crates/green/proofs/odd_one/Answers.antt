@@ -9,17 +9,16 @@ use Rattle.green.proofs.odd_one.Goals as goal
 
 pub returns : goal.returns
 returns c =
-    let s = c in
-    let fl = s.ranges.l in
-    let fa = s.ranges.a in
-    let fb = s.ranges.b in
-    let fc = s.ranges.c in
-    let fd = s.ranges.d in
+    let fl = c.ranges.l in
+    let fa = c.ranges.a in
+    let fb = c.ranges.b in
+    let fc = c.ranges.c in
+    let fd = c.ranges.d in
     let f1 : SFits w32 c.quarter-p.result = sfits_of c.quarter-p.type_inv in
     let f2 : SFits w32 c.wrapping_add.result = sfits_of c.wrapping_add.type_inv in
     let f3 : SFits w32 c.wrapping_sub.result = sfits_of c.wrapping_sub.type_inv in
     let e1 = simp to_z-of_z at c.quarter-p.ensures in
     let e2 = simp to_z-of_z at c.wrapping_add.ensures in
     let e3 = simp (to_z-of_z, shr-fits) at c.wrapping_sub.ensures in
-    let k = odd_is s.args.l s.args.a s.args.b s.args.c s.args.d fl in
+    let k = odd_is c.args.l c.args.a c.args.b c.args.c c.args.d fl in
     simp to_z-of_z (cc)

@@ -20,13 +20,12 @@ loop-x-init c = let s = c.args in (search rules, refl, put-start s.work.now s.to
 
 pub loop-x-preserved : goal.loop-x-preserved
 loop-x-preserved c =
-    let h = c in
-    let s = h.args in
+    let s = c.args in
     let l = s.work.now in
-    let m = h.loop-x.work in
+    let m = c.loop-x.work in
     let n = s.n in
-    let x = h.loop-x.x in
-    let i = h.loop-x.invariant in
+    let x = c.loop-x.x in
+    let i = c.loop-x.invariant in
     let a1 : SFits w32 (at m (s.l + x)) = sfits_of c.odd_one-arg-1.given in
     let a2 : SFits w32 (at m (s.p + x)) = sfits_of c.odd_one-arg-in-loop-x-1.given in
     let a3 : SFits w32 (at m (s.p + x + 1)) = sfits_of c.odd_one-arg-in-loop-x-2-1.given in
@@ -48,13 +47,12 @@ loop-x-preserved c =
 
 pub returns : goal.returns
 returns c =
-    let h = c in
-    let s = h.args in
+    let s = c.args in
     let l = s.work.now in
-    let m = h.loop-x.work in
+    let m = c.loop-x.work in
     let n = s.n in
-    let x = h.loop-x.x in
-    let i = h.loop-x.invariant in
+    let x = c.loop-x.x in
+    let i = c.loop-x.invariant in
     let a1 : SFits w32 (at m (s.l + x)) = sfits_of c.odd_one-arg-2-1.given in
     let a2 : SFits w32 (at m (s.p + x)) = sfits_of c.odd_one-arg-3-1.given in
     let a4 : SFits w32 (at m (s.q + x)) = sfits_of c.odd_one-arg-5-1.given in

@@ -10,11 +10,10 @@ use Rattle.green.proofs.quarter.Goals as goal
 pub returns : goal.returns
 unfolding quarter_of
 returns c =
-    let s = c in
-    let fa = s.ranges.a in
-    let fb = s.ranges.b in
-    let fc = s.ranges.c in
-    let fd = s.ranges.d in
+    let fa = c.ranges.a in
+    let fb = c.ranges.b in
+    let fc = c.ranges.c in
+    let fd = c.ranges.d in
     let f1 : SFits w32 c.wrapping_add.result = sfits_of c.wrapping_add.type_inv in
     let f2 : SFits w32 c.wrapping_add-2.result = sfits_of c.wrapping_add-2.type_inv in
     let f3 : SFits w32 c.wrapping_add-3.result = sfits_of c.wrapping_add-3.type_inv in

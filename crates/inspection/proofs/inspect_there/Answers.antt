@@ -39,7 +39,7 @@ decode_record-counts-requires c =
     let h = (s k).requires in
     record {
       in_bounds = (h.0, h.1, f.payload_at-offset.ensures.1);
-      m_bound = (h.2, h.3, simp (length-take, length-drop) (omega (arith, fits k, size_is k)));
+      shape = (h.2, h.3, simp (length-take, length-drop) (omega (arith, fits k, size_is k)));
     }
 
 pub returns : goal.returns

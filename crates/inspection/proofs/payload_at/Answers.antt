@@ -11,25 +11,23 @@ loop-k-init c = (c.first_payload-at.ensures.0, omega (arith, c.first_payload-at.
 
 pub loop-k-preserved : goal.loop-k-preserved
 loop-k-preserved c =
-    let l = c in
-    let p = l.args.packet.now in
+    let p = c.args.packet.now in
     let n = c.record_length-at.ensures in
-    let i = l.loop-k.invariant in (
-      (λ j. i.0 j + n.0 j) ∙ sym (payload-on p l.loop-k.k),
+    let i = c.loop-k.invariant in (
+      (λ j. i.0 j + n.0 j) ∙ sym (payload-on p c.loop-k.k),
       omega (arith, n.1, i.1),
       omega (arith, c.loop-k-test.true),
     )
 
 pub returns : goal.returns
 returns c =
-    let s = c in
-    let p = s.args.packet.now in
+    let p = c.args.packet.now in
     let l = c.loop-k in
-    let done : l.k ≡ s.args.i = omega (arith, l.invariant.2, c.loop-k-test.false) in
-    (l.invariant.0 ∙ ap (payload_at p) done, omega (arith, l.invariant.1, l.invariant.2, s.requires.1))
+    let done : l.k ≡ c.args.i = omega (arith, l.invariant.2, c.loop-k-test.false) in
+    (l.invariant.0 ∙ ap (payload_at p) done, omega (arith, l.invariant.1, l.invariant.2, c.requires.1))
 
 pub record_length-at-requires : goal.record_length-at-requires
-record_length-at-requires c = let s = c in (s.requires.0, omega (arith, c.loop-k-test.true, s.requires.1))
+record_length-at-requires c = (c.requires.0, omega (arith, c.loop-k-test.true, c.requires.1))
 
 pub overflow_add-at : goal.overflow_add-at
 overflow_add-at c = omega (arith, c.record_length-at.ensures.1, c.loop-k.invariant.1, c.loop-k.invariant.2, c.requires.1)

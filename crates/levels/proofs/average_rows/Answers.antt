@@ -8,21 +8,16 @@ use Rattle.levels.proofs.average_rows.Goals as goal
 
 pub level_in-requires : goal.level_in-requires
 level_in-requires c =
-    let d = c in
-    let h = d in
-    let s = h.args in
-    let p = h.requires in
+    let s = c.args in
+    let p = c.requires in
     let z = s.z in
-    level-asks z s.at p.0 l3 _ d.level_3-g.ensures _ (d.level_3-g.ensures.rows ∙ highs-3 z.guarded z.n) s.out _ refl s.from s.count p.4 p.5 _ p.2 _ p.1 p.3
+    level-asks z s.at p.0 l3 _ c.level_3-g.ensures _ (c.level_3-g.ensures.rows ∙ highs-3 z.guarded z.n) s.out _ refl s.from s.count p.4 p.5 _ p.2 _ p.1 p.3
 
 pub returns : goal.returns
 returns c =
     λ ll b near.
-    let e = c in
-    let d = c in
-    let h = d in
-    let s = h.args in
-    let p = h.requires in
+    let s = c.args in
+    let p = c.requires in
     let z = s.z in
-    level-gives z s.at p.0 l3 _ d.level_3-g.ensures _ (d.level_3-g.ensures.rows ∙ highs-3 z.guarded z.n) s.out _ refl s.from s.count p.4 p.5 _ p.2
-    ll b _ _ refl near e.level_in.ensures
+    level-gives z s.at p.0 l3 _ c.level_3-g.ensures _ (c.level_3-g.ensures.rows ∙ highs-3 z.guarded z.n) s.out _ refl s.from s.count p.4 p.5 _ p.2
+    ll b _ _ refl near c.level_in.ensures

@@ -13,36 +13,27 @@ use Rattle.levels.proofs.leading_steps.Goals as goal
 
 pub leading_last-requires : goal.leading_last-requires
 leading_last-requires c =
-    let e = c in
-    let i = c in
-    let h = i in
-    let s = h.args in
-    let p = h.requires in
+    let s = c.args in
+    let p = c.requires in
     let q = p.5 in
-    let d = e.leading_in in
+    let d = c.leading_in in
     let room : s.out + s.pairs * (4 * s.g.c) ≤ length d.new.work = omega (arith, d.auto.work, q.room) in
-    (p.0, omega (arith, i.if-h-from.true, p.2), record { three = d.auto.ring ∙ q.three; room = room; some = q.some; stands = q.stands })
+    (p.0, omega (arith, c.if-h-from.true, p.2), record { three = d.auto.ring ∙ q.three; room = room; some = q.some; stands = q.stands })
 
 pub returns-then-h-from : goal.returns-then-h-from
 returns-then-h-from c =
-    let d = c in
-    let e = c in
-    let i = c in
-    let h = i in
-    let s = h.args in
-    let p = h.requires in
+    let s = c.args in
+    let p = c.requires in
     let k = s.g.h - s.from in
-    let mid = e.leading_in.ensures in
+    let mid = c.leading_in.ensures in
     let q = p.5 in
-    let same : SameBelow s.out e.leading_in.new.work s.work.now =
+    let same : SameBelow s.out c.leading_in.new.work s.work.now =
     rw mid (pairs-same true s.g s.m s.out s.pairs s.work.now s.from q.some q.room k) in
-    let row = last-same s.g s.m s.out _ s.work.now same q.stands p.0 (omega (arith, i.if-h-from.true, p.2, p.4)) in
-    rw (lt-ltb s.g.h (s.from + s.count) i.if-h-from.true)
-    (d.leading_last.ensures ∙ (λ j. put_at (mid j) (pair_at s.out s.pairs s.g.c s.g.h) (row j)))
+    let row = last-same s.g s.m s.out _ s.work.now same q.stands p.0 (omega (arith, c.if-h-from.true, p.2, p.4)) in
+    rw (lt-ltb s.g.h (s.from + s.count) c.if-h-from.true)
+    (c.leading_last.ensures ∙ (λ j. put_at (mid j) (pair_at s.out s.pairs s.g.c s.g.h) (row j)))
 
 pub returns-else-h-from : goal.returns-else-h-from
 returns-else-h-from c =
-    let d = c in
-    let i = d in
-    let s = i.args in
-    rw (le-ltb s.g.h (s.from + s.count) i.if-h-from.false) d.leading_in-else-h-from.ensures
+    let s = c.args in
+    rw (le-ltb s.g.h (s.from + s.count) c.if-h-from.false) c.leading_in-else-h-from.ensures

@@ -9,8 +9,7 @@ synth_guard3-requires c =
 
 pub synth_level_stride-requires : goal.synth_level_stride-requires
 synth_level_stride-requires c =
-    let h = c in
-    let p = rw h.if-z.false at h.requires in
+    let p = rw c.if-z.false at c.requires in
     omega (arith, p.0.tall, p.0.few)
 
 pub returns-then-z : goal.returns-then-z
@@ -19,7 +18,6 @@ returns-then-z c =
 
 pub returns-else-z : goal.returns-else-z
 returns-else-z c =
-    let h = c in
-    let s = h.args in
-    let p = rw h.if-z.false at h.requires in
-    rw (h.if-z.false, c.synth_level_stride.ensures) (plain3-placed s.z.w s.z.n s.z.slots s.at p.1 p.0)
+    let s = c.args in
+    let p = rw c.if-z.false at c.requires in
+    rw (c.if-z.false, c.synth_level_stride.ensures) (plain3-placed s.z.w s.z.n s.z.slots s.at p.1 p.0)

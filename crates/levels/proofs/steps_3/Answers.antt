@@ -4,8 +4,7 @@ use Rattle.levels.proofs.steps_3.Goals as goal
 
 pub overflow_sub-result : goal.overflow_sub-result
 overflow_sub-result c =
-    let h = c in
-    let p = rw h.if-z.true at h.requires in
+    let p = rw c.if-z.true at c.requires in
     omega (arith, p.tall)
 
 pub returns-then-z : goal.returns-then-z

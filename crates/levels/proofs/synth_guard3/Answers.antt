@@ -5,11 +5,6 @@ use Rattle.levels.proofs.synth_guard3.Goals as goal
 
 pub returns : goal.returns
 returns c =
-    let d = c in
-    let t2 = c in
-    let t = c in
-    let o = c in
-    let h = o in
-    let s = h.args in
-    rw (o.solid-ll.ensures, t.triple-hl.ensures, t2.triple-lh.ensures, d.triple-hh.ensures)
-    (guarded3-placed s.z.w s.z.n s.z.slots s.at h.requires.1 h.requires.0)
+    let s = c.args in
+    rw (c.solid-ll.ensures, c.triple-hl.ensures, c.triple-lh.ensures, c.triple-hh.ensures)
+    (guarded3-placed s.z.w s.z.n s.z.slots s.at c.requires.1 c.requires.0)

@@ -14,30 +14,25 @@ use Rattle.levels.proofs.third_rows.Goals as goal
 
 pub plain_out-requires : goal.plain_out-requires
 plain_out-requires c =
-    let d = c in
-    let h = d in
-    let s = h.args in
-    let p = h.requires in
+    let s = c.args in
+    let p = c.requires in
     let z = s.z in
-    let f = d.level_3-g.ensures in
+    let f = c.level_3-g.ensures in
     let k = f.rows ∙ highs-3 z.guarded z.n in
     let w4 : 2 * s.count * (z.w / 2) ≡ s.count * (4 * (z.w / 4)) = let e = next-columns z.w p.fits.0.0.whole l3 in rw (← e) (omega arith) in
     let stood = placed-stands z.guarded z.w z.n z.slots s.at p.fits.0.0 p.fits.0.1 l3 _ f _ p.fits.1 in (
-      omega (arith, k, p.from_bound.0),
-      omega (arith, k, p.from_bound.1),
+      omega (arith, k, p.lent.0),
+      omega (arith, k, p.lent.1),
       p.fits.2 ∙ ap three_rows (sym f.cols),
-      p.from_bound.2 ∙ w4 ∙ ap (λ (j : ℕ). s.count * (4 * j)) (sym f.cols),
-      subst (λ (m : ℕ). Stands d.level_3-g.result m (length s.work.now)) (sym k) stood,
+      p.lent.2 ∙ w4 ∙ ap (λ (j : ℕ). s.count * (4 * j)) (sym f.cols),
+      subst (λ (m : ℕ). Stands c.level_3-g.result m (length s.work.now)) (sym k) stood,
     )
 
 pub returns : goal.returns
 returns c =
     λ ll b near.
-    let e = c in
-    let d = c in
-    let h = d in
-    let s = h.args in
-    let p = h.requires in
+    let s = c.args in
+    let p = c.requires in
     let z = s.z in
-    e.plain_out.ensures
-    ∙ plane-gives z.guarded z.w z.n z.slots s.at p.fits.0.0 _ d.level_3-g.ensures s.from s.count ll b _ near p.from_bound.1
+    c.plain_out.ensures
+    ∙ plane-gives z.guarded z.w z.n z.slots s.at p.fits.0.0 _ c.level_3-g.ensures s.from s.count ll b _ near p.lent.1

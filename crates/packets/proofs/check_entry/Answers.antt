@@ -13,14 +13,14 @@ returns-in_default c =
     let found = (goal.at.returns-in_default c).After-find_entry in
     let s = found in
     let a = s.args in
-    simp (entry-check a.stream.now a.group a.index found.find_entry.result found.find_entry.ensures.result_value s.requires.1, c.in_default.is)
+    simp (entry-check a.stream.now a.group a.index found.find_entry.result found.find_entry.ensures.number s.requires.1, c.in_default.is)
 
 pub packet-found-requires : goal.packet-found-requires
 packet-found-requires c =
     let found = (goal.at.packet-found-requires c).After-find_entry in
     let s = found in
     let a = s.args in
-    let inside = found_inside a.stream.now a.group a.index found.find_entry.result found.find_entry.ensures.result_value s.requires.3 s.requires.1 (ap entry_number c.in-Present.is) in
+    let inside = found_inside a.stream.now a.group a.index found.find_entry.result found.find_entry.ensures.number s.requires.3 s.requires.1 (ap entry_number c.in-Present.is) in
     (s.requires.0, s.requires.1, s.requires.2, inside)
 
 pub returns-then-bad-ne0 : goal.returns-then-bad-ne0
@@ -31,7 +31,7 @@ returns-then-bad-ne0 c =
     let s = found in
     let a = s.args in
     simp (
-      entry-check a.stream.now a.group a.index found.find_entry.result found.find_entry.ensures.result_value s.requires.1,
+      entry-check a.stream.now a.group a.index found.find_entry.result found.find_entry.ensures.number s.requires.1,
       told.in-Present.is,
       ← p.packet-found.ensures,
       ← c.parse_packet-bad.ensures,
@@ -47,7 +47,7 @@ returns c =
     let s = found in
     let a = s.args in
     simp (
-      entry-check a.stream.now a.group a.index found.find_entry.result found.find_entry.ensures.result_value s.requires.1,
+      entry-check a.stream.now a.group a.index found.find_entry.result found.find_entry.ensures.number s.requires.1,
       told.in-Present.is,
       ← p.packet-found.ensures,
       ← e.parse_packet-bad.ensures,

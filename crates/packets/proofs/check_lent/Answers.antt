@@ -15,8 +15,7 @@ returns-then-red-need c = simp (le-ltb _ _ c.if-green-need.false, lt-ltb _ _ c.i
 pub returns-then-blue-need : goal.returns-then-blue-need
 unfolding short_of
 returns-then-blue-need c =
-    let e = c in
-    simp (le-ltb _ _ e.if-green-need.false, le-ltb _ _ e.if-red-need.false, lt-ltb _ _ c.if-blue-need.true)
+    simp (le-ltb _ _ c.if-green-need.false, le-ltb _ _ c.if-red-need.false, lt-ltb _ _ c.if-blue-need.true)
 
 pub returns-then-work-need : goal.returns-then-work-need
 unfolding short_of

@@ -16,6 +16,5 @@ check_rest-requires c =
 pub returns : goal.returns
 unfolding stream_refusal
 returns c =
-    let a = c in
-    let h = told _ _ _ _ refl a.in-Valid.is a.parse_stream_header.ensures.header_says in
+    let h = told _ _ _ _ refl c.in-Valid.is c.parse_stream_header.ensures.header_says in
     simp (h.0, c.check_rest.ensures)

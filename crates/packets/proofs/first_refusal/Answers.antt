@@ -27,9 +27,8 @@ returns-then-a-ne0 c =
 
 pub check_rest-requires : goal.check_rest-requires
 check_rest-requires c =
-    let a = c in
-    let n = a.lengths_of-need in
-    needed-long _ n.result n.ensures a.if-need-ne0.false
+    let n = c.lengths_of-need in
+    needed-long _ n.result n.ensures c.if-need-ne0.false
 
 pub returns : goal.returns
 returns c =

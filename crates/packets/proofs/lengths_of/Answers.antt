@@ -16,6 +16,5 @@ lengths_by-requires c = let h = told _ _ _ _ refl c.in-Valid.is c.parse_stream_h
 pub returns : goal.returns
 unfolding lengths_of
 returns c =
-    let a = c in
-    let h = told _ _ _ _ refl a.in-Valid.is a.parse_stream_header.ensures.header_says in
+    let h = told _ _ _ _ refl c.in-Valid.is c.parse_stream_header.ensures.header_says in
     simp (h.0, ← h.2, ← h.3, c.lengths_by.ensures)

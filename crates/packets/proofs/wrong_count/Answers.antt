@@ -11,12 +11,10 @@ pub returns-then-not-guarded : goal.returns-then-not-guarded
 unfolding wrong_count
 returns-then-not-guarded c =
     let g = c.guarded in
-    let e = c in
-    simp (← e.stripes-n.ensures.0, ne_eqb _ _ e.if-count-n.false, ← g.ensures, c.if-not-guarded.true)
+    simp (← c.stripes-n.ensures.0, ne_eqb _ _ c.if-count-n.false, ← g.ensures, c.if-not-guarded.true)
 
 pub returns : goal.returns
 unfolding wrong_count
 returns c =
     let g = c.guarded in
-    let e = c in
-    simp (← e.stripes-n.ensures.0, ne_eqb _ _ e.if-count-n.false, ← g.ensures, c.if-not-guarded.false)
+    simp (← c.stripes-n.ensures.0, ne_eqb _ _ c.if-count-n.false, ← g.ensures, c.if-not-guarded.false)

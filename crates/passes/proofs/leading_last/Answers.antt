@@ -19,18 +19,16 @@ leading_start-at-requires c =
 
 pub end_pair-requires : goal.end_pair-requires
 end_pair-requires c =
-    let h = c in
-    let s = h.args in
-    let p = h.requires in
+    let s = c.args in
+    let p = c.requires in
     let b = c.leading_start-at in
     let r = highs-in s.g s.m s.out p.2.stands (length s.work.now) (omega (arith, p.2.room)) s.g.h b.result p.1 b.ensures.0 in
     (omega (arith, b.auto.ring, p.2.three), omega arith, r)
 
 pub emit-requires : goal.emit-requires
 emit-requires c =
-    let h = c in
-    let s = h.args in
-    let p = h.requires in
+    let s = c.args in
+    let p = c.requires in
     let q = pair-in s.out s.pairs s.g.c s.g.h p.2.some in
     let k = c.leading_start-at.auto.ring in
     let n = c.end_pair.auto.ring in
@@ -38,9 +36,8 @@ emit-requires c =
 
 pub returns : goal.returns
 returns c =
-    let h = c in
-    let s = h.args in
-    let p = h.requires in
+    let s = c.args in
+    let p = c.requires in
     let g = s.g in
     let w = s.work.now in
     let b = c.leading_start-at in

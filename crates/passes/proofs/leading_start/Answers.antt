@@ -45,9 +45,8 @@ rows-requires-else-y-gt0 c =
 
 pub returns-then-y-gt0 : goal.returns-then-y-gt0
 returns-then-y-gt0 c =
-    let h = c in
-    let s = h.args in
-    let p = h.requires in
+    let s = c.args in
+    let p = c.requires in
     let a = c.rows-at in
     let b = c.rows in
     let x = a.ensures in

@@ -26,9 +26,8 @@ low_pair-requires c =
 
 pub high_pair-requires : goal.high_pair-requires
 high_pair-requires c =
-    let h = c in
-    let s = h.args in
-    let p = h.requires in
+    let s = c.args in
+    let p = c.requires in
     let o = p.two_slots.0 in
     let r = highs-in s.g s.m (length s.work.now) p.two_slots.3 (length s.work.now) (omega arith) s.y s.at (omega (arith, p.two_slots.1, p.two_slots.2)) p.highs_at.0 in
     let k = c.low_pair.auto.ring in
@@ -36,9 +35,8 @@ high_pair-requires c =
 
 pub end_pair-requires : goal.end_pair-requires
 end_pair-requires c =
-    let h = c in
-    let s = h.args in
-    let p = h.requires in
+    let s = c.args in
+    let p = c.requires in
     let o = p.two_slots.0 in
     let r = highs-in s.g s.m (length s.work.now) p.two_slots.3 (length s.work.now) (omega arith) s.y s.at (omega (arith, p.two_slots.1, p.two_slots.2)) p.highs_at.0 in
     let k = c.low_pair.auto.ring in
@@ -46,9 +44,8 @@ end_pair-requires c =
 
 pub returns-then-y-gt0 : goal.returns-then-y-gt0
 returns-then-y-gt0 c =
-    let h = c in
-    let s = h.args in
-    let p = h.requires in
+    let s = c.args in
+    let p = c.requires in
     let o = p.two_slots.0 in
     let g = s.g in
     let w = s.work.now in
@@ -72,9 +69,8 @@ returns-then-y-gt0 c =
 
 pub returns-else-y-gt0 : goal.returns-else-y-gt0
 returns-else-y-gt0 c =
-    let h = c in
-    let s = h.args in
-    let p = h.requires in
+    let s = c.args in
+    let p = c.requires in
     let o = p.two_slots.0 in
     let g = s.g in
     let w = s.work.now in

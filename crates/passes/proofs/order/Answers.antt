@@ -6,21 +6,18 @@ use Rattle.passes.proofs.order.Goals as goal
 
 pub overflow_add-result : goal.overflow_add-result
 overflow_add-result c =
-    let h = c in
-    let s = h.args in
-    omega (arith, order-one s.m s.c s.r, rw c.if-kind-eq1.true at h.requires.0)
+    let s = c.args in
+    omega (arith, order-one s.m s.c s.r, rw c.if-kind-eq1.true at c.requires.0)
 
 pub overflow_mul-result-else-kind-eq1 : goal.overflow_mul-result-else-kind-eq1
 overflow_mul-result-else-kind-eq1 c =
-    let h = c in
-    let s = h.args in
-    rw c.quotient-q.ensures (omega (arith, part-below s.m s.kind s.c s.r h.requires.1, h.requires.0))
+    let s = c.args in
+    rw c.quotient-q.ensures (omega (arith, part-below s.m s.kind s.c s.r c.requires.1, c.requires.0))
 
 pub overflow_add-result-else-kind-eq1 : goal.overflow_add-result-else-kind-eq1
 overflow_add-result-else-kind-eq1 c =
-    let h = c in
-    let s = h.args in
-    rw c.quotient-q.ensures (omega (arith, part-below s.m s.kind s.c s.r h.requires.1, h.requires.0))
+    let s = c.args in
+    rw c.quotient-q.ensures (omega (arith, part-below s.m s.kind s.c s.r c.requires.1, c.requires.0))
 
 pub overflow_mul-result-else-kind-eq1-2 : goal.overflow_mul-result-else-kind-eq1-2
 overflow_mul-result-else-kind-eq1-2 c = rw c.quotient-q.ensures (omega (arith, c.requires.0))
@@ -33,8 +30,7 @@ overflow_sub-result c = let s = c.args in rw c.quotient-q.ensures (omega (arith,
 
 pub overflow_add-result-else-kind-eq1-2 : goal.overflow_add-result-else-kind-eq1-2
 overflow_add-result-else-kind-eq1-2 c =
-    let h = c in
-    rw c.quotient-q.ensures (omega (arith, div-add-mod' h.args.r h.args.m, h.requires.0))
+    rw c.quotient-q.ensures (omega (arith, div-add-mod' c.args.r c.args.m, c.requires.0))
 
 pub returns-then-kind-eq1 : goal.returns-then-kind-eq1
 returns-then-kind-eq1 c =

@@ -29,9 +29,8 @@ prior-requires c =
 
 pub low_pair-requires : goal.low_pair-requires
 low_pair-requires c =
-    let h = c in
-    let s = h.args in
-    let p = h.requires in
+    let s = c.args in
+    let p = c.requires in
     let g = s.g in
     let n = length s.work.now in
     let z = p.2.stands in
@@ -46,9 +45,8 @@ low_pair-requires c =
 
 pub loop-k-init : goal.loop-k-init
 loop-k-init c =
-    let h = c in
-    let s = h.args in
-    let p = h.requires in
+    let s = c.args in
+    let p = c.requires in
     let g = s.g in
     let w = s.work.now in
     let z : s.from + 0 ≡ s.from = omega arith in
@@ -76,9 +74,8 @@ same :
     (c : At-loop-k) →
     let s = c.args in SameBelow s.out c.loop-k.work s.work.now
 same c =
-    let h = c in
-    let s = h.args in
-    let p = h.requires in
+    let s = c.args in
+    let p = c.requires in
     let g = s.g in
     let l = s.work.now in
     let i = c.loop-k.invariant in
@@ -91,35 +88,30 @@ same c =
 
 pub overflow_add-y : goal.overflow_add-y
 overflow_add-y c =
-    let b = c in
-    omega (arith, c.loop-k-test.true, b.requires.1)
+    omega (arith, c.loop-k-test.true, c.requires.1)
 
 pub following-q-requires : goal.following-q-requires
 following-q-requires c =
-    let b = c in
-    omega (arith, c.loop-k-test.true, b.requires.1)
+    omega (arith, c.loop-k-test.true, c.requires.1)
 
 pub rows-next-requires : goal.rows-next-requires
 rows-next-requires c =
-    let b = c in
-    let s = b.args in
-    let p = b.requires in
+    let s = c.args in
+    let p = c.requires in
     let d = c.following-q in
     let t : d.result < s.g.h = omega (arith, d.ensures, c.loop-k-test.true, p.1) in
     rows_in s.g s.g.h s.out p.2.stands (omega (arith, p.2.room)) d.result d.result t t
 
 pub plain_step-requires : goal.plain_step-requires
 plain_step-requires c =
-    let h = c in
-    let i = h.loop-k.invariant in
-    let b = h in
-    let s = b.args in
-    let p = b.requires in
+    let i = c.loop-k.invariant in
+    let s = c.args in
+    let p = c.requires in
     let g = s.g in
-    let y = s.from + h.loop-k.k in
+    let y = s.from + c.loop-k.k in
     let t : y < g.h = omega (arith, c.loop-k-test.true, p.1) in
-    let e = even-same g h.loop-k.work s.work.now s.out (same (goal.at.plain_step-requires c).At-loop-k) p.2.stands y t in
-    let o : s.out ≤ length h.loop-k.work = omega (arith, i.7, p.2.room) in
+    let e = even-same g c.loop-k.work s.work.now s.out (same (goal.at.plain_step-requires c).At-loop-k) p.2.stands y t in
+    let o : s.out ≤ length c.loop-k.work = omega (arith, i.7, p.2.room) in
     let z = i.6 t in
     let d = c.following-q in
     let x = c.rows-next.ensures in
@@ -131,47 +123,37 @@ plain_step-requires c =
 
 pub pair_at-o-requires : goal.pair_at-o-requires
 pair_at-o-requires c =
-    let h = c in
-    let i = h.loop-k.invariant in
-    let b = h in
-    let p = b.requires in
+    let i = c.loop-k.invariant in
+    let p = c.requires in
     (p.2.some, omega (arith, i.1, i.7, p.2.room))
 
 pub overflow_mul-c : goal.overflow_mul-c
 overflow_mul-c c =
-    let h = c in
-    let b = h in
-    omega (arith, h.loop-k.invariant.1, b.requires.2.three)
+    omega (arith, c.loop-k.invariant.1, c.requires.2.three)
 
 pub emit_two-requires : goal.emit_two-requires
 emit_two-requires c =
-    let h = c in
-    let i = h.loop-k.invariant in
-    let b = h in
-    let s = b.args in
-    let p = b.requires in
+    let i = c.loop-k.invariant in
+    let s = c.args in
+    let p = c.requires in
     let k = c.plain_step.auto.ring in
-    let q = pair-in s.out s.pairs s.g.c (s.from + h.loop-k.k) p.2.some in
+    let q = pair-in s.out s.pairs s.g.c (s.from + c.loop-k.k) p.2.some in
     let e = rw i.1 at c.pair_at-o.ensures in
     omega (arith, k, e, q.1, i.1, i.2, i.5, i.7, p.2.room)
 
 pub overflow_add-k : goal.overflow_add-k
 overflow_add-k c =
-    let h = c in
-    let b = h in
-    omega (arith, h.loop-k-test.true)
+    omega (arith, c.loop-k-test.true)
 
 pub loop-k-preserved : goal.loop-k-preserved
 loop-k-preserved c =
-    let h = c in
-    let b = h in
-    let s = b.args in
-    let p = b.requires in
-    let i = h.loop-k.invariant in
+    let s = c.args in
+    let p = c.requires in
+    let i = c.loop-k.invariant in
     let g = s.g in
     let l = s.work.now in
-    let w = h.loop-k.work in
-    let k = h.loop-k.k in
+    let w = c.loop-k.work in
+    let k = c.loop-k.k in
     let y = s.from + k in
     let t = c.loop-k-test.true in
     let u : y < g.h = omega (arith, t, p.1) in
@@ -190,22 +172,21 @@ loop-k-preserved c =
       d.auto.ring ∙ i.5,
       (λ q. let v : y + 1 < g.h = omega (arith, q) in
           let x = even-same g w l s.out (same (goal.at.loop-k-preserved c).At-loop-k) p.2.stands (y + 1) v in
-          let m = z.holds_3 v in
+          let m = z.next_held v in
           rw (← n) (m.0 ∙ x.0, m.1 ∙ x.1)),
       c.emit_two.auto.out ∙ i.7,
       e ∙ laid-step (λ (j : ℕ). pair_at s.out s.pairs g.c (s.from + j)) (λ (j : ℕ). two_rows g l (s.from + j)) l w _ k _ i.8 f
-          (two-rows g w d.new.ring y h.loop-k.a (4 * g.c) z.holds_2.0 z.holds_2.1 ∙ two-same g w l s.out (same (goal.at.loop-k-preserved c).At-loop-k) p.2.stands y u),
+          (two-rows g w d.new.ring y c.loop-k.a (4 * g.c) z.held.0 z.held.1 ∙ two-same g w l s.out (same (goal.at.loop-k-preserved c).At-loop-k) p.2.stands y u),
       (λ q. let m : o.result ≡ s.from + (k + 1) = omega (arith, q, o.ensures) in rw m at r.1),
     )
 
 pub returns : goal.returns
 returns c =
-    let h = c in
-    let s = h.args in
-    let i = h.loop-k.invariant in
+    let s = c.args in
+    let i = c.loop-k.invariant in
     let g = s.g in
     let l = s.work.now in
-    let k : h.loop-k.k ≡ s.count = omega (arith, i.0, c.loop-k-test.false) in
+    let k : c.loop-k.k ≡ s.count = omega (arith, i.0, c.loop-k-test.false) in
     i.8 ∙ ap (λ (n : ℕ). laid (λ (j : ℕ). pair_at s.out s.pairs g.c (s.from + j)) (λ (j : ℕ). two_rows g l (s.from + j)) l n) k
 
 pub loop-k-smaller : goal.loop-k-smaller

@@ -27,9 +27,8 @@ prior-requires c =
 
 pub low_pair-requires : goal.low_pair-requires
 low_pair-requires c =
-    let h = c in
-    let s = h.args in
-    let p = h.requires in
+    let s = c.args in
+    let p = c.requires in
     let g = s.g in
     let n = length s.work.now in
     let same : n ≤ n = omega arith in
@@ -43,9 +42,8 @@ low_pair-requires c =
 
 pub loop-k-init : goal.loop-k-init
 loop-k-init c =
-    let h = c in
-    let s = h.args in
-    let p = h.requires in
+    let s = c.args in
+    let p = c.requires in
     let g = s.g in
     let w = s.work.now in
     let d = c.low_pair in
@@ -75,32 +73,26 @@ room k n c h = let m = mul-le-mul_right c h in omega (arith, m)
 
 pub overflow_add-y : goal.overflow_add-y
 overflow_add-y c =
-    let b = c in
-    omega (arith, c.loop-k-test.true, b.requires.1)
+    omega (arith, c.loop-k-test.true, c.requires.1)
 
 pub following-q-requires : goal.following-q-requires
 following-q-requires c =
-    let b = c in
-    omega (arith, c.loop-k-test.true, b.requires.1)
+    omega (arith, c.loop-k-test.true, c.requires.1)
 
 pub rows-next-requires : goal.rows-next-requires
 rows-next-requires c =
-    let h = c in
-    let b = h in
-    let s = b.args in
-    let p = b.requires in
+    let s = c.args in
+    let p = c.requires in
     let d = c.following-q in
     let t : d.result < s.g.h = omega (arith, d.ensures, c.loop-k-test.true, p.1) in
     rows_in s.g s.g.h _ p.4 (omega arith) d.result d.result t t
 
 pub plain_step-requires : goal.plain_step-requires
 plain_step-requires c =
-    let h = c in
-    let i = h.loop-k.invariant in
-    let b = h in
-    let s = b.args in
-    let p = b.requires in
-    let y = s.from + h.loop-k.k in
+    let i = c.loop-k.invariant in
+    let s = c.args in
+    let p = c.requires in
+    let y = s.from + c.loop-k.k in
     let t : y < s.g.h = omega (arith, c.loop-k-test.true, p.1) in
     let d = c.following-q in
     let x = c.rows-next.ensures in
@@ -113,60 +105,48 @@ plain_step-requires c =
 
 pub overflow_mul-c : goal.overflow_mul-c
 overflow_mul-c c =
-    let h = c in
-    let b = h in
-    omega (arith, h.loop-k.invariant.1, b.requires.2)
+    omega (arith, c.loop-k.invariant.1, c.requires.2)
 
 pub emit_two-requires : goal.emit_two-requires
 emit_two-requires c =
-    let h = c in
-    let i = h.loop-k.invariant in
-    let b = h in
-    let p = b.requires in
+    let i = c.loop-k.invariant in
+    let p = c.requires in
     let t = c.loop-k-test.true in
-    let m = room h.loop-k.k b.args.count (4 * b.args.g.c) t in
+    let m = room c.loop-k.k c.args.count (4 * c.args.g.c) t in
     let k = c.plain_step.auto.ring in
     omega (arith, m, k, i.1, i.2, i.3, i.6, i.8, p.3)
 
 pub overflow_mul-o : goal.overflow_mul-o
 overflow_mul-o c =
-    let h = c in
-    let b = h in
-    omega (arith, h.loop-k.invariant.1, b.requires.2)
+    omega (arith, c.loop-k.invariant.1, c.requires.2)
 
 pub overflow_add-o : goal.overflow_add-o
 overflow_add-o c =
-    let h = c in
-    let i = h.loop-k.invariant in
-    let b = h in
-    let p = b.requires in
+    let i = c.loop-k.invariant in
+    let p = c.requires in
     let t = c.loop-k-test.true in
-    let m = room h.loop-k.k b.args.count (4 * b.args.g.c) t in
+    let m = room c.loop-k.k c.args.count (4 * c.args.g.c) t in
     omega (arith, m, i.1, i.2, i.8, p.3)
 
 pub overflow_add-k : goal.overflow_add-k
 overflow_add-k c =
-    let h = c in
-    let b = h in
-    omega (arith, h.loop-k-test.true)
+    omega (arith, c.loop-k-test.true)
 
 pub loop-k-preserved : goal.loop-k-preserved
 loop-k-preserved c =
-    let h = c in
-    let b = h in
-    let s = b.args in
-    let p = b.requires in
-    let i = h.loop-k.invariant in
+    let s = c.args in
+    let p = c.requires in
+    let i = c.loop-k.invariant in
     let g = s.g in
     let w = s.work.now in
-    let k = h.loop-k.k in
+    let k = c.loop-k.k in
     let t = c.loop-k-test.true in
     let d = c.plain_step in
     let z = d.ensures in
     let f = c.following-q in
     let x = c.rows-next.ensures in
     let n : s.from + k + 1 ≡ s.from + (k + 1) = omega arith in
-    let r = two-rows g w d.new.ring (s.from + k) h.loop-k.a (4 * g.c) z.holds_2.0 z.holds_2.1 in
+    let r = two-rows g w d.new.ring (s.from + k) c.loop-k.a (4 * g.c) z.held.0 z.held.1 in
     let e = rw (i.1, i.2) at c.emit_two.ensures in (
       omega (arith, t),
       i.1,
@@ -175,23 +155,21 @@ loop-k-preserved c =
       i.3,
       apart-turned _ _ _ _ i.5,
       d.auto.ring ∙ i.6,
-      (λ q. rw (← n) (z.holds_3 (omega (arith, q)))),
+      (λ q. rw (← n) (z.next_held (omega (arith, q)))),
       c.emit_two.auto.out ∙ i.8,
-      e ∙ over-step (4 * g.c) (λ (j : ℕ). two_rows g w (s.from + j)) (λ j. length_two g w (s.from + j)) s.plane.now h.loop-k.plane _ k i.9 r,
+      e ∙ over-step (4 * g.c) (λ (j : ℕ). two_rows g w (s.from + j)) (λ j. length_two g w (s.from + j)) s.plane.now c.loop-k.plane _ k i.9 r,
       (λ q. let m : f.result ≡ s.from + (k + 1) = omega (arith, q, f.ensures) in rw m at x.1),
     )
 
 pub returns : goal.returns
 returns c =
-    let h = c in
-    let b = h in
-    let s = b.args in
-    let i = h.loop-k.invariant in
+    let s = c.args in
+    let i = c.loop-k.invariant in
     let g = s.g in
     let w = s.work.now in
-    let t : h.loop-k.k ≡ s.count = omega (arith, i.0, c.loop-k-test.false) in
+    let t : c.loop-k.k ≡ s.count = omega (arith, i.0, c.loop-k-test.false) in
     let each : (j : ℕ) → length (two_rows g w (s.from + j)) ≡ 4 * g.c = λ j. length_two g w (s.from + j) in
-    over_done (4 * g.c) (λ (j : ℕ). two_rows g w (s.from + j)) each s.plane.now _ h.loop-k.k s.count i.9 t b.requires.3
+    over_done (4 * g.c) (λ (j : ℕ). two_rows g w (s.from + j)) each s.plane.now _ c.loop-k.k s.count i.9 t c.requires.3
 
 pub loop-k-smaller : goal.loop-k-smaller
 loop-k-smaller c = omega (arith, c.loop-k-test.true)

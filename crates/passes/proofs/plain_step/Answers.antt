@@ -10,9 +10,8 @@ use Rattle.passes.proofs.plain_step.Goals as goal
 
 pub low_pair-requires : goal.low_pair-requires
 low_pair-requires c =
-    let h = c in
-    let s = h.args in
-    let p = h.requires in
+    let s = c.args in
+    let p = c.requires in
     let g = s.g in
     let n = length s.work.now in
     let same : n ≤ n = omega arith in
@@ -26,26 +25,23 @@ low_pair-requires c =
 
 pub high_pair-requires : goal.high_pair-requires
 high_pair-requires c =
-    let h = c in
-    let s = h.args in
-    let p = h.requires in
+    let s = c.args in
+    let p = c.requires in
     let k = c.low_pair.auto.ring in
     let r = highs-in s.g s.g.h (length s.work.now) p.two_slots.2 (length s.work.now) (omega arith) s.y s.at p.two_slots.1 p.highs_at.0 in
     (omega (arith, p.two_slots.0.0, k), omega (arith, p.two_slots.0.1), omega (arith, p.two_slots.0.2), r)
 
 pub high_pair-requires-else-y-g : goal.high_pair-requires-else-y-g
 high_pair-requires-else-y-g c =
-    let h = c in
-    let s = h.args in
-    let p = h.requires in
+    let s = c.args in
+    let p = c.requires in
     let r = highs-in s.g s.g.h (length s.work.now) p.two_slots.2 (length s.work.now) (omega arith) s.y s.at p.two_slots.1 p.highs_at.0 in
     (omega (arith, p.two_slots.0.0), omega (arith, p.two_slots.0.1), omega (arith, p.two_slots.0.1), r)
 
 pub returns-then-y-g : goal.returns-then-y-g
 returns-then-y-g c =
-    let h = c in
-    let s = h.args in
-    let p = h.requires in
+    let s = c.args in
+    let p = c.requires in
     let o = p.two_slots.0 in
     let g = s.g in
     let n = g.c in
@@ -66,15 +62,14 @@ returns-then-y-g c =
     let f : Holds m s.a n (lo_e g w y) (hi_e g w y) = even-keeps g w l m s.at s.next s.b s.a _ _ in_b v o.3 p.holds in
     let q : Holds m s.b n (lo_e g w (y + 1)) (hi_e g w (y + 1)) =
     even-put g w l m s.at s.next (y + 1) y s.b i x.0 p.highs_at.0 x.1 in_b v in record {
-      holds_2 = (odd-keeps g w m _ s.at s.a s.b s.a _ _ room e o.1 f, odd-put g w m _ s.at y (y + 1) s.a s.b k p.highs_at.0 room f q e);
-      holds_3 = (λ _. odd-keeps g w m _ s.at s.a s.b s.b _ _ room e o.2 q);
+      held = (odd-keeps g w m _ s.at s.a s.b s.a _ _ room e o.1 f, odd-put g w m _ s.at y (y + 1) s.a s.b k p.highs_at.0 room f q e);
+      next_held = (λ _. odd-keeps g w m _ s.at s.a s.b s.b _ _ room e o.2 q);
     }
 
 pub returns-else-y-g : goal.returns-else-y-g
 returns-else-y-g c =
-    let h = c in
-    let s = h.args in
-    let p = h.requires in
+    let s = c.args in
+    let p = c.requires in
     let o = p.two_slots.0 in
     let g = s.g in
     let w = s.work.now in
@@ -83,6 +78,6 @@ returns-else-y-g c =
     let b = c.if-y-g.false in
     let k : y ≡ min (y + 1) (g.h - 1) = omega (arith, b, p.two_slots.1) in
     let e = c.high_pair-else-y-g.ensures in record {
-      holds_2 = (odd-keeps g w l _ s.at s.a s.a s.a _ _ o.0 e o.1 p.holds, odd-put g w l _ s.at y y s.a s.a k p.highs_at.0 o.0 p.holds p.holds e);
-      holds_3 = (λ q. absurd (omega (arith, q, b)));
+      held = (odd-keeps g w l _ s.at s.a s.a s.a _ _ o.0 e o.1 p.holds, odd-put g w l _ s.at y y s.a s.a k p.highs_at.0 o.0 p.holds p.holds e);
+      next_held = (λ q. absurd (omega (arith, q, b)));
     }

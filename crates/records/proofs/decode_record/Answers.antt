@@ -22,7 +22,7 @@ returns-then-bytes-eq0 c =
     let empty = record-none p a.m a.cols a.i a.offset (sym t.record_length-bytes.ensures.0 ∙ t.if-bytes-eq0.true) in
     record {
       value = c.none.ensures ∙ empty.0;
-      band_after = b.clear.ensures ∙ ap zeros s.requires.m_bound.2 ∙ empty.1;
+      band_after = b.clear.ensures ∙ ap zeros s.requires.shape.2 ∙ empty.1;
     }
 
 count-le : (c : After-kind) → c.kind.result * c.args.m ≤ 3 * c.args.m
@@ -30,21 +30,20 @@ count-le c = rows-le c.kind.result c.args.m (omega (arith, c.kind.ensures.1))
 
 pub new-start-requires : goal.new-start-requires
 new-start-requires c =
-    let s = c in
-    (omega (arith, s.requires.in_bounds.0), omega (arith, s.requires.in_bounds.2), omega (arith, c.record_length-bytes.ensures.1))
+    (omega (arith, c.requires.in_bounds.0), omega (arith, c.requires.in_bounds.2), omega (arith, c.record_length-bytes.ensures.1))
 
 pub decode_rows-requires : goal.decode_rows-requires
 decode_rows-requires c =
     let f = (goal.at.decode_rows-requires c).After-kind in
     let s = f in
     let a = s.args in record {
-      ready = (c.new-start.ensures.ready, ap (λ (r : Reader). r.status) c.new-start.ensures.result_value);
-      i_bound = (
+      ready = (c.new-start.ensures.ready, ap (λ (r : Reader). r.status) c.new-start.ensures.value);
+      shape = (
         omega (arith, index (goal.at.After-kind f).After-shared_slice_known-1),
-        omega (arith, s.requires.m_bound.0),
-        omega (arith, s.requires.m_bound.1),
+        omega (arith, s.requires.shape.0),
+        omega (arith, s.requires.shape.1),
         count-le f,
-        ap (λ (k : ℕ). k * a.m * a.cols) f.kind.ensures.0 ∙ sym s.requires.m_bound.2,
+        ap (λ (k : ℕ). k * a.m * a.cols) f.kind.ensures.0 ∙ sym s.requires.shape.2,
       );
     }
 
@@ -60,7 +59,7 @@ returns c =
     let p = a.packet.now in
     let some : record_length p a.i ≡ 0 → ⊥ = λ e. f.if-bytes-eq0.false (l.record_length-bytes.ensures.0 ∙ e) in
     let count = ap (λ (k : ℕ). k * a.m) f.kind.ensures.0 in
-    let start = n.new-start.ensures.result_value ∙ ap (start_of a.offset) l.record_length-bytes.ensures.0 in
+    let start = n.new-start.ensures.value ∙ ap (start_of a.offset) l.record_length-bytes.ensures.0 in
     let coded = record-coded p a.m a.cols a.i a.offset _ _ some count start in
     record {
       value = d.decode_rows.ensures.value ∙ coded.0;

@@ -27,7 +27,7 @@ loop-k-init c =
     let h = c.requires in
     let p = a.packet.now in
     let r = as_reader a.reader in
-    let start = walk_first p (selector p a.i) a.m a.cols a.count r a.band.now h.i_bound.4 in (
+    let start = walk_first p (selector p a.i) a.m a.cols a.count r a.band.now h.shape.4 in (
       start,
       refl,
       h.ready.0,
@@ -59,10 +59,9 @@ overflow_add-end c = omega (arith, (inside c).fits, c.loop-k.invariant.1, c.well
 
 pub decode_component-row-requires : goal.decode_component-row-requires
 decode_component-row-requires c =
-    let s = c in
     record {
       ready = c.loop-k.invariant.2;
-      selector_bound = (c.selector_of-selector.ensures.1, simp (length-take, length-drop) (omega (arith, s.requires.i_bound.2)));
+      selector_bound = (c.selector_of-selector.ensures.1, simp (length-take, length-drop) (omega (arith, c.requires.shape.2)));
     }
 
 -- after a row: it stands in the band
@@ -107,7 +106,7 @@ module _ (c : After-band-1) where
   own : c.selector_of-selector.result ≡ sel (k / s.args.m)
   own =
       let a = s.args in
-      let row = selector-row p a.i a.m k (omega (arith, n.loop-k-test.true, s.requires.i_bound.3)) in
+      let row = selector-row p a.i a.m k (omega (arith, n.loop-k-test.true, s.requires.shape.3)) in
       c.selector_of-selector.ensures.0 ∙ ap (λ (w : Selectors). selector_of w a.m k) n.selectors_at-v.ensures.value ∙ row
 
   stands : (post : List ℤ) → length (take at band ++ (ys ++ post)) ≡ length band
@@ -118,7 +117,7 @@ module _ (c : After-band-1) where
       let l = n.loop-k in
       let e = c.decode_component-row.ensures in
       walk-next p sel a.m a.cols r₀ _ band at (a.count - k) k (as_reader l.r) l.invariant.0 (a.count - (k + 1)) (inside n).next
-      _ _ ys post end size own e.reader_value e.dst_after long same
+      _ _ ys post end size own e.reader_after e.dst_after long same
 
   same : length (take at band ++ (ys ++ drop (at + s.args.cols - at) (drop at band))) ≡ length band
   same = same_len_mid at (at + s.args.cols - at) band ys c.decode_component-row.auto.dst
@@ -131,7 +130,7 @@ module _ (c : After-band-1) where
   with_row =
       let a = s.args in
       let i = n.loop-k.invariant in
-      let row = c.decode_component-row.ensures.bits_value ∙ (λ j. row_used p (own j) (size j) (i.0.reader j)) in
+      let row = c.decode_component-row.ensures.bits ∙ (λ j. row_used p (own j) (size j) (i.0.reader j)) in
       let on = used-on p sel a.m a.cols r₀ s.requires.ready.1 k in
       (λ j. i.6 j + row j) ∙ sym on ∙ ap used (sym (add-one k))
 
@@ -163,7 +162,7 @@ loop-k-preserved c =
     let a = (s d).args in (
       w,
       same d ∙ i.1,
-      d.decode_component-row.ensures.ready_2,
+      d.decode_component-row.ensures.still_ready,
       omega (arith, (n d).loop-k-test.true),
       c.if-r-ne0.false,
       first_on (p d) (sel d) a.m a.cols (r₀ d) (k d) i.5 (end d) w.reader c.if-r-ne0.false,
@@ -200,13 +199,12 @@ returns-then-r-ne0 c =
 
 pub returns : goal.returns
 returns c =
-    let e = c in
-    let a = e.args in
+    let a = c.args in
     let p = a.packet.now in
     let sel = selector p a.i in
     let r = as_reader a.reader in
-    let l = e.loop-k in
-    let done : l.k ≡ a.count = omega (arith, l.invariant.3, e.loop-k-test.false) in
+    let l = c.loop-k in
+    let done : l.k ≡ a.count = omega (arith, l.invariant.3, c.loop-k-test.false) in
     let first = sym l.invariant.5 ∙ ap (λ (n : ℕ). first_status p sel a.m a.cols n r) done in
     let bits = l.invariant.6 ∙ ap (λ (n : ℕ). rows_used p sel a.m a.cols n r) done in record {
       value = c.one-2.ensures ∙ (λ j. counts_of (first j) (bits j));
@@ -214,7 +212,7 @@ returns c =
     }
 
 pub selector_of-selector-requires : goal.selector_of-selector-requires
-selector_of-selector-requires c = record { small = c.selectors_at-v.ensures.small; m_bound = c.requires.i_bound.1 }
+selector_of-selector-requires c = record { small = c.selectors_at-v.ensures.small; shape = c.requires.shape.1 }
 
 pub offset_bounds-band-at : goal.offset_bounds-band-at
 offset_bounds-band-at c = omega (arith, (inside (goal.at.offset_bounds-band-at c).In-loop-k).fits, c.loop-k.invariant.1, c.well_formed)

@@ -11,20 +11,16 @@ use Rattle.records.proofs.fill_record.Goals as goal
 
 pub decode_record-requires : goal.decode_record-requires
 decode_record-requires c =
-    let s = c in
-    let t = c in
     record {
-      in_bounds = (s.requires.in_bounds.0, omega (arith, t.if-i-blocks.true, t.blocks-2.ensures.0, bits-lt s.args.packet.now 56 16), s.requires.in_bounds.1);
-      m_bound = s.requires.m_bound;
+      in_bounds = (c.requires.in_bounds.0, omega (arith, c.if-i-blocks.true, c.blocks-2.ensures.0, bits-lt c.args.packet.now 56 16), c.requires.in_bounds.1);
+      shape = c.requires.shape;
     }
 
 pub returns-then-i-blocks : goal.returns-then-i-blocks
 unfolding values_from
 returns-then-i-blocks c =
-    let s = c in
-    let t = c in
     let e = c.decode_record.ensures in
-    let has = lt-ltb s.args.i (blocks s.args.packet.now) (omega (arith, t.if-i-blocks.true, t.blocks-2.ensures.0)) in
+    let has = lt-ltb c.args.i (blocks c.args.packet.now) (omega (arith, c.if-i-blocks.true, c.blocks-2.ensures.0)) in
     record {
       value = simp has e.value;
       band_after = simp has e.band_after;
@@ -39,5 +35,5 @@ returns c =
     let missing = le-ltb s.args.i (blocks s.args.packet.now) (omega (arith, t.if-i-blocks.false, t.blocks-2.ensures.0)) in
     record {
       value = simp missing c.none.ensures;
-      band_after = simp missing (b.clear.ensures ∙ ap zeros s.requires.m_bound.2);
+      band_after = simp missing (b.clear.ensures ∙ ap zeros s.requires.shape.2);
     }

@@ -18,5 +18,4 @@ returns-then-is_end c =
 pub returns-else-is_end : goal.returns-else-is_end
 unfolding finished_by
 returns-else-is_end c =
-    let e = c in
-    rw (e.if-f.false, ← e.is_end.ensures, c.if-is_end.false) refl
+    rw (c.if-f.false, ← c.is_end.ensures, c.if-is_end.false) refl

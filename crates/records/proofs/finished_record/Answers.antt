@@ -11,7 +11,7 @@ finish_record-requires c =
     let d = (goal.at.finish_record-requires c).After-fill_record-counts in
     let s = d in
     let m = mul-le-mul_right s.args.h.cols s.requires.in_bounds.2 in
-    omega (arith, m, s.requires.m_bound.2, d.fill_record-counts.auto.band)
+    omega (arith, m, s.requires.shape.2, d.fill_record-counts.auto.band)
 
 pub returns : goal.returns
 returns c =

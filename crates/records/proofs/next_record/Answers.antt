@@ -44,9 +44,9 @@ module _ (c : After-kind) where
   -- the slot of record i lies within the work slice
   fits : at + size ≤ length l
   fits =
-      let q = mul-le-mul_right size (mod-lt s.args.i s.requires.m_bound.2) in
+      let q = mul-le-mul_right size (mod-lt s.args.i s.requires.shape.2) in
       let e = ap (λ (x : ℕ). h.slots * x) size_is in
-      omega (arith, q, e, s.requires.m_bound.3)
+      omega (arith, q, e, s.requires.shape.3)
 
   -- the work slice with the record in its slot
   abbrev done : List ℤ
@@ -66,22 +66,21 @@ slot c = (goal.at.After-struct_known-4-1 c).After-kind
 
 pub overflow_mul-size : goal.overflow_mul-size
 overflow_mul-size c =
-    let a = c in
-    omega (arith, rows-le c.kind.result a.args.h.m (omega (arith, c.kind.ensures.1)), a.requires.m_bound.0)
+    omega (arith, rows-le c.kind.result c.args.h.m (omega (arith, c.kind.ensures.1)), c.requires.shape.0)
 
 pub overflow_mul-size-2 : goal.overflow_mul-size-2
 overflow_mul-size-2 c =
     let f = (goal.at.overflow_mul-size-2 c).After-kind in
     let a = f in
     let h = a.args.h in
-    omega (arith, size-le f.kind.result h.m h.cols (omega (arith, f.kind.ensures.1)) a.requires.m_bound.0, a.requires.m_bound.1)
+    omega (arith, size-le f.kind.result h.m h.cols (omega (arith, f.kind.ensures.1)) a.requires.shape.0, a.requires.shape.1)
 
 pub finished_record-one-requires : goal.finished_record-one-requires
 finished_record-one-requires c =
     let f = slot (goal.at.finished_record-one-requires c).After-struct_known-4-1 in
     let a = s f in record {
       in_bounds = (a.requires.in_bounds.0, a.requires.in_bounds.2, a.requires.in_bounds.4);
-      m_bound = (a.requires.m_bound.0, a.requires.m_bound.1, simp (length-take, length-drop) (omega (arith, fits f, size_is f)));
+      shape = (a.requires.shape.0, a.requires.shape.1, simp (length-take, length-drop) (omega (arith, fits f, size_is f)));
     }
 
 pub returns-then-blocks-i : goal.returns-then-blocks-i

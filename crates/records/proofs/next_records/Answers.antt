@@ -21,15 +21,14 @@ loop-k-init c =
 
 pub next_record-r-requires : goal.next_record-r-requires
 next_record-r-requires c =
-    let l = c in
-    let i = l.loop-k.invariant in
-    let s = l.args in
-    let p = l.requires in
+    let i = c.loop-k.invariant in
+    let s = c.args in
+    let p = c.requires in
     let t = c.loop-k-test.true in
-    let n = walked_near s.packet.now s.h.m s.h.cols s.from s.v l.loop-k.k in
+    let n = walked_near s.packet.now s.h.m s.h.cols s.from s.v c.loop-k.k in
     let o = ap (λ (r : Walked). r.offset) i.2 in
-    let near : l.loop-k.r.offset < 2 ^ 36 = omega (arith, t, o, n.offset, p.in_bounds.1, p.in_bounds.2) in
-    let few : Few (2 ^ 60) l.loop-k.r.counts =
+    let near : c.loop-k.r.offset < 2 ^ 36 = omega (arith, t, o, n.offset, p.in_bounds.1, p.in_bounds.2) in
+    let few : Few (2 ^ 60) c.loop-k.r.counts =
     record {
       broken = omega (arith, t, ap (λ (r : Walked). r.counts.broken) i.2, n.broken, p.in_bounds.1, p.in_bounds.3.broken);
       spent = omega (arith, t, ap (λ (r : Walked). r.counts.spent) i.2, n.spent, p.in_bounds.1, p.in_bounds.3.spent);
@@ -37,33 +36,31 @@ next_record-r-requires c =
     } in
     record {
       in_bounds = (p.in_bounds.0, omega (arith, t, p.in_bounds.1), near, few, p.in_bounds.4);
-      m_bound = (p.m_bound.0, p.m_bound.1, omega (arith, t, p.m_bound.2), omega (arith, i.1, p.m_bound.3));
+      shape = (p.shape.0, p.shape.1, omega (arith, t, p.shape.2), omega (arith, i.1, p.shape.3));
     }
 
 pub loop-k-preserved : goal.loop-k-preserved
 loop-k-preserved c =
-    let l = c in
-    let i = l.loop-k.invariant in
-    let s = l.args in
+    let i = c.loop-k.invariant in
+    let s = c.args in
     let p = s.packet.now in
     let h = s.h in
     let d = c.next_record-r in
-    let k = l.loop-k.k in
+    let k = c.loop-k.k in
     let value = ap (λ (r : Walked). finished_by s.f h.cols (s.from + k) (values_from p h.m h.cols (s.from + k) r.offset)) i.2 in (
       omega (arith, c.loop-k-test.true),
       d.auto.work ∙ i.1,
-      d.ensures.value ∙ walked_step p h.m h.cols s.from s.v l.loop-k.r k i.2,
-      d.ensures.work_after ∙ laid-step (placed p s.from h) (done p s.from s.v h s.f) s.work.now l.loop-k.work _ k _ i.3 refl value,
+      d.ensures.value ∙ walked_step p h.m h.cols s.from s.v c.loop-k.r k i.2,
+      d.ensures.work_after ∙ laid-step (placed p s.from h) (done p s.from s.v h s.f) s.work.now c.loop-k.work _ k _ i.3 refl value,
     )
 
 pub returns : goal.returns
 returns c =
-    let l = c in
-    let s = l.args in
+    let s = c.args in
     let p = s.packet.now in
     let h = s.h in
-    let i = l.loop-k.invariant in
-    let k : l.loop-k.k ≡ s.count = omega (arith, i.0, c.loop-k-test.false) in
+    let i = c.loop-k.invariant in
+    let k : c.loop-k.k ≡ s.count = omega (arith, i.0, c.loop-k-test.false) in
     let all = ap (laid (placed p s.from h) (done p s.from s.v h s.f) s.work.now) k in
     record {
       value = i.2 ∙ ap (walked_by p h.m h.cols s.from s.v) k;

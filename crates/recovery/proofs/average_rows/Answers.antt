@@ -13,7 +13,7 @@ use Rattle.recovery.proofs.average_rows.Goals.{After-averages, After-details, Af
 use Rattle.recovery.proofs.average_rows.Goals as goal
 
 pub rows_of-rows-requires : goal.rows_of-rows-requires
-rows_of-rows-requires c = let s = c in rows-of-good s.args.z 0 _ s.requires.0
+rows_of-rows-requires c = rows-of-good c.args.z 0 _ c.requires.0
 
 pub details-requires : goal.details-requires
 details-requires c =
@@ -62,5 +62,5 @@ returns c =
     let stand = details-stand z _ k plane s.args.work.now refl d.details.new.work (made d) in
     let is = transport (λ i. DetailsStand (e i) (z.w / 2) plane d.details.new.work (192 * f i) → a.averages.new.work ≡ laid (λ y. 64 * f i + y * (z.w / 2)) (λ y. tab (z.w / 2) (l_of (e i) (z.w / 2) (read_plane (2 * (z.w / 2)) plane) y)) d.details.new.work (e i)) a.averages.ensures stand in record {
       index_rows = averages-stand z _ k plane s.args.work.now refl d.details.new.work (made d) a.averages.new.work is;
-      work_len_unchanged = averages-long z _ k plane s.args.work.now refl d.details.new.work (made d) a.averages.new.work is;
+      same_length = averages-long z _ k plane s.args.work.now refl d.details.new.work (made d) a.averages.new.work is;
     }

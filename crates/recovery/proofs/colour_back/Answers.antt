@@ -40,12 +40,11 @@ made c =
     c.copy.ensures ∙ ap (λ (n : ℕ). put_at s.args.work.now s.args.at (take n s.args.plane.now)) (many r)
 
 -- and there is room for it
-room : (c : After-copy) → let s = (goal.at.After-copy c).Start in let z = s.args.z in
-    s.args.at + plane_rows z.guarded z.n * (z.w / 2) ≤ length s.args.work.now
+room : (c : After-copy) → let z = c.args.z in
+    c.args.at + plane_rows z.guarded z.n * (z.w / 2) ≤ length c.args.work.now
 room c =
-    let s = c in
-    let k = s.requires.0 in
-    omega (arith, plane-in s.args.z s.args.at _ k, k.front, k.room)
+    let k = c.requires.0 in
+    omega (arith, plane-in c.args.z c.args.at _ k, k.front, k.room)
 
 pub index_back-requires : goal.index_back-requires
 index_back-requires c =

@@ -17,10 +17,9 @@ loop-k-init c = let s = c.args in (search rules, refl, put-start s.work.now s.to
 
 pub loop-k-preserved : goal.loop-k-preserved
 loop-k-preserved c =
-    let h = c in
-    let s = h.args in
+    let s = c.args in
     let f = sfits_of c.work-1.given in
-    (omega arith, simp length-set h.loop-k.invariant.1, put_step s.work.now h.loop-k.work s.to h.loop-k.k (at s.plane.now) _ h.loop-k.invariant.2 (omega arith) (read_back refl f))
+    (omega arith, simp length-set c.loop-k.invariant.1, put_step s.work.now c.loop-k.work s.to c.loop-k.k (at s.plane.now) _ c.loop-k.invariant.2 (omega arith) (read_back refl f))
 
 pub returns : goal.returns
 returns c =

@@ -23,13 +23,12 @@ use Rattle.recovery.proofs.details_back.Goals.{After-clear, After-details, After
 use Rattle.recovery.proofs.details_back.Goals as goal
 
 pub rows_of-rows-requires : goal.rows_of-rows-requires
-rows_of-rows-requires c = let s = c in rows-of-good s.args.z 0 _ s.requires.0
+rows_of-rows-requires c = rows-of-good c.args.z 0 _ c.requires.0
 
 -- the work slice with the scratch cleared
 abbrev mid_of : After-clear → List ℤ
 mid_of c =
-    let u = c in
-    put_mid (192 * u.unit-u.result) (192 * u.unit-u.result + 64 * u.unit-u.result - 192 * u.unit-u.result) u.args.work.now c.clear.new.dst
+    put_mid (192 * c.unit-u.result) (192 * c.unit-u.result + 64 * c.unit-u.result - 192 * c.unit-u.result) c.args.work.now c.clear.new.dst
 
 cleared : (c : After-clear) → let s = (goal.at.After-clear c).Start in
     mid_of c ≡ put_at s.args.work.now (scratch_at s.args.z) (zeros (64 * unit_of s.args.z))
@@ -45,14 +44,13 @@ cleared c =
     ∙ (λ i. put_at s.args.work.now (p i) (zeros (n i)))
 
 -- each row of the details stands in it
-inside : (c : After-clear) (y : ℕ) → let s = (goal.at.After-clear c).Start in let z = s.args.z in y < plane_rows z.guarded z.n
+inside : (c : After-clear) (y : ℕ) → let z = c.args.z in y < plane_rows z.guarded z.n
     → scratch_at z + detail_at (kept z.guarded) (skipped z.guarded) y * (z.w / 2) + z.w / 2 ≤ length (mid_of c)
 inside c y b =
-    let s = c in
-    let z = s.args.z in
-    let k = s.requires.0 in
-    let m = row_in z _ k s.requires.1 s.args.plane.now s.args.work.now (mid_of c) (mid_of c) refl (cleared c) y b in
-    let n = cleared-long z _ k s.requires.1 s.args.plane.now s.args.work.now (mid_of c) (mid_of c) refl (cleared c) in
+    let z = c.args.z in
+    let k = c.requires.0 in
+    let m = row_in z _ k c.requires.1 c.args.plane.now c.args.work.now (mid_of c) (mid_of c) refl (cleared c) y b in
+    let n = cleared-long z _ k c.requires.1 c.args.plane.now c.args.work.now (mid_of c) (mid_of c) refl (cleared c) in
     omega (arith, m, n, k.room)
 
 -- where row y goes
@@ -114,8 +112,7 @@ returns c =
     let h = (goal.at.returns c).After-details in
     let d = (goal.at.After-details h).After-clear in
     let g = (goal.at.After-clear d).After-skipped-gap in
-    let r = (goal.at.After-skipped-gap g).After-rows_of-rows in
-    let z = r.args.z in
+    let z = g.args.z in
     back h _
     (c.large_rows.ensures
-    ∙ (λ i. each (λ y. each (λ x. too_large (at (part h.details.new.work (goes g y i) (z.w / 2)) x)) (z.w / 2)) (r.rows_of-rows.ensures.0 i)))
+    ∙ (λ i. each (λ y. each (λ x. too_large (at (part h.details.new.work (goes g y i) (z.w / 2)) x)) (z.w / 2)) (g.rows_of-rows.ensures.0 i)))

@@ -16,19 +16,16 @@ use Rattle.recovery.proofs.first_back.Goals as goal
 
 pub ll_2-from-requires : goal.ll_2-from-requires
 ll_2-from-requires c =
-    let s = c in
-    let k = s.requires in
-    ((k.fits.0, record { some = k.fits.1.some; few = k.fits.1.few; small = omega (arith, k.fits.1.small) }), ll-2-small s.args.z s.args.at _ k)
+    let k = c.requires in
+    ((k.fits.0, record { some = k.fits.1.some; few = k.fits.1.few; small = omega (arith, k.fits.1.small) }), ll-2-small c.args.z c.args.at _ k)
 
 pub overflow_add-to : goal.overflow_add-to
 overflow_add-to c =
-    let s = c in
-    omega (arith, c.ll_2-from.ensures, ll-2-small s.args.z s.args.at _ s.requires, narrow s.args.z s.args.at _ s.requires)
+    omega (arith, c.ll_2-from.ensures, ll-2-small c.args.z c.args.at _ c.requires, narrow c.args.z c.args.at _ c.requires)
 
 pub overflow_mul-t : goal.overflow_mul-t
 overflow_mul-t c =
-    let s = c in
-    omega (arith, narrow s.args.z s.args.at _ s.requires)
+    omega (arith, narrow c.args.z c.args.at _ c.requires)
 
 pub undo_into-rows-requires : goal.undo_into-rows-requires
 undo_into-rows-requires c =
@@ -49,8 +46,8 @@ undo_into-rows-requires c =
     let sp = first-in z p _ k in
     rw (u.unit-u.ensures, f.ll_2-from.ensures, b.rows_1-h.ensures) (record {
       within = lower-rows z p _ k (ll_place z l2) (2 * w) (w / 16) h z.n start wide cols some sh sp;
-      le_c = lower-shape z p _ k (ll_place z l2) (2 * w) (w / 16) h z.n start wide cols some sh sp;
-      a_le_b = lower-clear z p _ k (ll_place z l2) (2 * w) (w / 16) h z.n start wide cols some sh sp _ _ (omega arith) (omega arith);
+      shape = lower-shape z p _ k (ll_place z l2) (2 * w) (w / 16) h z.n start wide cols some sh sp;
+      order = lower-clear z p _ k (ll_place z l2) (2 * w) (w / 16) h z.n start wide cols some sh sp _ _ (omega arith) (omega arith);
     })
 
 -- the level is undone, in document 01's words

@@ -16,7 +16,7 @@ index_back-requires c =
     let u = (goal.at.After-average_rows a).After-unit-u in
     let s = u in
     let k = s.requires.0 in
-    (block-as _ _ _ _ a.average_rows.ensures.work_len_unchanged k, rw u.unit-u.ensures (omega arith))
+    (block-as _ _ _ _ a.average_rows.ensures.same_length k, rw u.unit-u.ensures (omega arith))
 
 pub returns : goal.returns
 returns c =
@@ -30,5 +30,5 @@ returns c =
     let rows = a.average_rows.ensures.index_rows in
     record {
       back = record { steps = i.steps green out refl rows; details = i.details green out refl rows; refusal = i.refusal green out refl rows };
-      work_len_unchanged = i.long ∙ a.average_rows.ensures.work_len_unchanged;
+      same_length = i.long ∙ a.average_rows.ensures.same_length;
     }

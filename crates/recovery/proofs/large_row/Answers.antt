@@ -19,8 +19,7 @@ loop-x-init c = (search rules, each_none (λ x. too_large (at c.args.row.now x))
 -- the fault of number x
 found : (c : After-size_fault-f) → c.size_fault-f.result ≡ too_large (at c.args.row.now c.loop-x.x)
 found c =
-    let h = c in
-    let f : SFits w32 (at h.args.row.now h.loop-x.x) = sfits_of c.size_fault-arg-1.given in
+    let f : SFits w32 (at c.args.row.now c.loop-x.x) = sfits_of c.size_fault-arg-1.given in
     simp to_z-of_z at c.size_fault-f.ensures
 
 pub returns-then-f-ne0 : goal.returns-then-f-ne0

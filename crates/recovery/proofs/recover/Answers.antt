@@ -11,8 +11,7 @@ use Rattle.recovery.proofs.recover.Goals as goal
 
 pub green_back-a-requires : goal.green_back-a-requires
 green_back-a-requires c =
-    let s = c in
-    (room-block s.args.z 0 _ _ _ _ _ s.requires (omega arith) refl, s.requires.greens)
+    (room-block c.args.z 0 _ _ _ _ _ c.requires (omega arith) refl, c.requires.greens)
 
 -- red's block is the second, blue's the third
 second : (c : After-colour_back-b) → let a = (goal.at.After-colour_back-b c).After-green_back-a in let s = (goal.at.After-green_back-a a).Start in
@@ -37,7 +36,7 @@ colour_back-b-requires c =
     let a = (goal.at.colour_back-b-requires c).After-green_back-a in
     let u = (goal.at.After-green_back-a a).After-unit-u in
     let s = u in
-    (room-block s.args.z _ _ _ _ _ _ s.requires (omega (arith, u.unit-u.ensures)) a.green_back-a.ensures.work_len_unchanged, s.requires.reds)
+    (room-block s.args.z _ _ _ _ _ _ s.requires (omega (arith, u.unit-u.ensures)) a.green_back-a.ensures.same_length, s.requires.reds)
 
 pub colour_back-c-requires : goal.colour_back-c-requires
 colour_back-c-requires c =
@@ -45,7 +44,7 @@ colour_back-c-requires c =
     let a = (goal.at.After-colour_back-b b).After-green_back-a in
     let u = (goal.at.After-green_back-a a).After-unit-u in
     let s = u in
-    (room-block s.args.z _ _ _ _ _ _ s.requires (omega (arith, u.unit-u.ensures)) ((second b).long ∙ a.green_back-a.ensures.work_len_unchanged), s.requires.blues)
+    (room-block s.args.z _ _ _ _ _ _ s.requires (omega (arith, u.unit-u.ensures)) ((second b).long ∙ a.green_back-a.ensures.same_length), s.requires.blues)
 
 pub details_back-d-requires : goal.details_back-d-requires
 details_back-d-requires c =
@@ -53,7 +52,7 @@ details_back-d-requires c =
     let b = (goal.at.After-colour_back-c d).After-colour_back-b in
     let a = (goal.at.After-colour_back-b b).After-green_back-a in
     let s = a in
-    (room-block s.args.z 0 _ _ _ _ _ s.requires (omega arith) ((third d).long ∙ (second b).long ∙ a.green_back-a.ensures.work_len_unchanged), s.requires.fits, s.requires.greens)
+    (room-block s.args.z 0 _ _ _ _ _ s.requires (omega arith) ((third d).long ∙ (second b).long ∙ a.green_back-a.ensures.same_length), s.requires.fits, s.requires.greens)
 
 pub returns : goal.returns
 returns c =
@@ -69,5 +68,5 @@ returns c =
       value = c.first_of-3.ensures ∙ ap (λ (n : ℕ). a.green_back-a.result ▷ n) (f2.first_of-2.ensures ∙ ap (λ (n : ℕ). b.colour_back-b.result ▷ n) f1.first_of.ensures)
           ∙ refused g.z _ _ _ _ k g.full.now g.red.now g.blue.now _ _ _ _ _ _ _ _ a.green_back-a.ensures.back (second b) (third d) e.details_back-d.ensures;
       recovered = recovered g.z _ _ _ _ k g.full.now g.red.now g.blue.now _ _ _ _ _ _ _ _ a.green_back-a.ensures.back (second b) (third d) e.details_back-d.ensures;
-      work_len_unchanged = e.details_back-d.ensures.long ∙ (third d).long ∙ (second b).long ∙ a.green_back-a.ensures.work_len_unchanged;
+      same_length = e.details_back-d.ensures.long ∙ (third d).long ∙ (second b).long ∙ a.green_back-a.ensures.same_length;
     }

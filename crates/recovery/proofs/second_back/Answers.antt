@@ -28,8 +28,8 @@ undo_into-rows-requires c =
     let cols : 1 ≤ w / 8 = omega (arith, k.fits.0.wide) in
     rw u.unit-u.ensures (record {
       within = lower-rows z p _ k (scratch_at z) w (w / 8) h h (omega arith) wide cols (some-2 z p _ k h i) (shape-2 z p _ k h i) (span-2 z p _ k h i);
-      le_c = lower-shape z p _ k (scratch_at z) w (w / 8) h h (omega arith) wide cols (some-2 z p _ k h i) (shape-2 z p _ k h i) (span-2 z p _ k h i);
-      a_le_b = lower-clear z p _ k (scratch_at z) w (w / 8) h h (omega arith) wide cols (some-2 z p _ k h i) (shape-2 z p _ k h i) (span-2 z p _ k h i) _ _ (omega arith) (omega arith);
+      shape = lower-shape z p _ k (scratch_at z) w (w / 8) h h (omega arith) wide cols (some-2 z p _ k h i) (shape-2 z p _ k h i) (span-2 z p _ k h i);
+      order = lower-clear z p _ k (scratch_at z) w (w / 8) h h (omega arith) wide cols (some-2 z p _ k h i) (shape-2 z p _ k h i) (span-2 z p _ k h i) _ _ (omega arith) (omega arith);
     })
 
 -- the level is undone, in document 01's words

@@ -22,7 +22,7 @@ ll_1-from-requires c =
     ((k.fits.0, record { some = k.fits.1.some; few = k.fits.1.few; small = omega (arith, k.fits.1.small) }), ll-1-small z c.args.at _ k, narrow z c.args.at _ k)
 
 pub overflow_mul-z : goal.overflow_mul-z
-overflow_mul-z c = let s = c in omega (arith, narrow s.args.z s.args.at _ s.requires)
+overflow_mul-z c = omega (arith, narrow c.args.z c.args.at _ c.requires)
 
 -- group 0's packet is cleared
 made : (c : After-clear) → let u = (goal.at.After-clear c).After-unit in let s = (goal.at.After-unit u).Start in let a = s.args in

@@ -20,8 +20,8 @@ undo_into-rows-requires c =
     let a = s.args in
     rw u.unit-u.ensures (record {
       within = third-rows a.z a.at _ s.requires.0 _ b.steps_3-h.ensures a.from s.requires.1;
-      le_c = third-shape a.z a.at _ s.requires.0 _ b.steps_3-h.ensures a.from s.requires.1;
-      a_le_b = third-clear a.z a.at _ s.requires.0 _ b.steps_3-h.ensures;
+      shape = third-shape a.z a.at _ s.requires.0 _ b.steps_3-h.ensures a.from s.requires.1;
+      order = third-clear a.z a.at _ s.requires.0 _ b.steps_3-h.ensures;
     })
 
 -- the level is undone, in document 01's words

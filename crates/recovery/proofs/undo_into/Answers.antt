@@ -16,7 +16,7 @@ returns-then-leads c =
     let l = m.undo_level.ensures in
     let z = put-zeros m.undo_level.new.work k.clear.new.dst a.a (a.b - a.a) (omega (arith, l.long, s.requires)) k.clear.ensures in
     ready (lead_of a.leads) a.h a.m a.c a.from a.s a.to a.t a.a a.b a.work.now m.undo_level.new.work _ _ l z
-    s.requires.a_le_b.0 s.requires.a_le_b.1 s.requires.a_le_b.2
+    s.requires.order.0 s.requires.order.1 s.requires.order.2
     (rw c.if-leads.true (omega arith)) (rw c.if-leads.true (omega arith)) refl
 
 pub returns-else-leads : goal.returns-else-leads
@@ -28,5 +28,5 @@ returns-else-leads c =
     let l = m.undo_level.ensures in
     let z = put-zeros m.undo_level.new.work k.clear.new.dst a.a (a.b - a.a) (omega (arith, l.long, s.requires)) k.clear.ensures in
     ready (lead_of a.leads) a.h a.m a.c a.from a.s a.to a.t a.a a.b a.work.now m.undo_level.new.work _ _ l z
-    s.requires.a_le_b.0 s.requires.a_le_b.1 s.requires.a_le_b.2
+    s.requires.order.0 s.requires.order.1 s.requires.order.2
     (rw c.if-leads.false (omega arith)) (rw c.if-leads.false (omega arith)) refl

@@ -30,9 +30,8 @@ loop-y-init c =
 
 pub row-to-requires : goal.row-to-requires
 row-to-requires c =
-    let h = c in
-    let p = h.requires in
-    let y = h.loop-y.y in
+    let p = c.requires in
+    let y = c.loop-y.y in
     let k = c.loop-y-test.true in
     (omega (arith, p.movable.target y k), p.counted y k, p.cols, p.whole)
 
@@ -73,16 +72,15 @@ loop-y-preserved c =
 
 pub returns : goal.returns
 returns c =
-    let h = c in
-    let s = h.args in
+    let s = c.args in
     let l = s.work.now in
-    let e : h.loop-y.y ≡ s.count = omega (arith, h.loop-y.invariant.0, c.loop-y-test.false) in (
-      h.loop-y.invariant.3 ∙ ap (λ (k : ℕ). band_laid s.b s.c s.from s.t k s.e l) e,
-      h.loop-y.invariant.2 ∙ ap (λ (k : ℕ). band_refused s.c s.from s.t k s.e l) e,
+    let e : c.loop-y.y ≡ s.count = omega (arith, c.loop-y.invariant.0, c.loop-y-test.false) in (
+      c.loop-y.invariant.3 ∙ ap (λ (k : ℕ). band_laid s.b s.c s.from s.t k s.e l) e,
+      c.loop-y.invariant.2 ∙ ap (λ (k : ℕ). band_refused s.c s.from s.t k s.e l) e,
     )
 
 pub overflow_mul-y : goal.overflow_mul-y
-overflow_mul-y c = let i = c in omega (arith, i.requires.movable.stands i.loop-y.y i.loop-y-test.true)
+overflow_mul-y c = omega (arith, c.requires.movable.stands c.loop-y.y c.loop-y-test.true)
 
 pub overflow_add-from : goal.overflow_add-from
-overflow_add-from c = let i = c in omega (arith, i.requires.movable.stands i.loop-y.y i.loop-y-test.true)
+overflow_add-from c = omega (arith, c.requires.movable.stands c.loop-y.y c.loop-y-test.true)

@@ -9,9 +9,8 @@ use Rattle.returning.proofs.bands_back_2.Goals as goal
 
 pub edges_2-e-requires : goal.edges_2-e-requires
 edges_2-e-requires c =
-    let h = c in
-    let z = h.args.z in
-    omega (arith, c.level_2-g.ensures.rows, height-pos z.guarded z.n h.requires.0.fits.0.tall l2)
+    let z = c.args.z in
+    omega (arith, c.level_2-g.ensures.rows, height-pos z.guarded z.n c.requires.0.fits.0.tall l2)
 
 pub level_back-requires : goal.level_back-requires
 level_back-requires c =

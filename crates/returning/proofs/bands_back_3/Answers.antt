@@ -17,9 +17,8 @@ two-rows true n t = omega arith
 
 pub edges_3-e-requires : goal.edges_3-e-requires
 edges_3-e-requires c =
-    let h = c in
-    let z = h.args.z in
-    omega (arith, c.level_3-g.ensures.rows, two-rows z.guarded z.n h.requires.0.fits.0.tall)
+    let z = c.args.z in
+    omega (arith, c.level_3-g.ensures.rows, two-rows z.guarded z.n c.requires.0.fits.0.tall)
 
 pub level_back-requires : goal.level_back-requires
 level_back-requires c =

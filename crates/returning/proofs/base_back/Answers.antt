@@ -9,9 +9,8 @@ use Rattle.returning.proofs.base_back.Goals as goal
 
 pub overflow_mul-s : goal.overflow_mul-s
 overflow_mul-s c =
-    let f = c in
-    let z = f.args.z in
-    let m : f.first_row-s.result * (z.w / 16) ≤ 1 * (z.w / 16) = mul-le-mul_right (z.w / 16) (omega (arith, f.first_row-s.ensures, start_small z.guarded)) in
+    let z = c.args.z in
+    let m : c.first_row-s.result * (z.w / 16) ≤ 1 * (z.w / 16) = mul-le-mul_right (z.w / 16) (omega (arith, c.first_row-s.ensures, start_small z.guarded)) in
     omega (arith, m)
 
 pub overflow_add-at : goal.overflow_add-at

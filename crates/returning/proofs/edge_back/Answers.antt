@@ -18,19 +18,17 @@ returns-then-v c =
 
 pub returns-then-edge_detail-e : goal.returns-then-edge_detail-e
 returns-then-edge_detail-e c =
-    let s = c in
-    let f = s.ranges.e in
-    let h = half-fits s.args.e f in
+    let f = c.ranges.e in
+    let h = half-fits c.args.e f in
     let g : SFits w32 c.edge_detail.result = sfits_of c.edge_detail.type_inv in
     let d = simp to_z-of_z at c.edge_detail.ensures in
-    let same : c.edge_detail.result ≡ s.args.e = sym (to_z-of_z g) ∙ ap (to_z w32) c.if-edge_detail-e.true ∙ to_z-of_z f in
+    let same : c.edge_detail.result ≡ c.args.e = sym (to_z-of_z g) ∙ ap (to_z w32) c.if-edge_detail-e.true ∙ to_z-of_z f in
     let far = simp to_z-of_z at c.if-v.false in
-    simp to_z-of_z (edge-found s.args.odd s.args.e f far (sym d ∙ same))
+    simp to_z-of_z (edge-found c.args.odd c.args.e f far (sym d ∙ same))
 
 pub returns-else-edge_detail-e : goal.returns-else-edge_detail-e
 returns-else-edge_detail-e c =
-    let s = c in
-    let f = s.ranges.e in
-    let h = half-fits s.args.e f in
+    let f = c.ranges.e in
+    let h = half-fits c.args.e f in
     let d = simp to_z-of_z at c.edge_detail.ensures in
-    edge_none s.args.odd s.args.e f (λ q. c.if-edge_detail-e.false (ap (of_z w32) (d ∙ q)))
+    edge_none c.args.odd c.args.e f (λ q. c.if-edge_detail-e.false (ap (of_z w32) (d ∙ q)))

@@ -55,22 +55,21 @@ loop-y-preserved c =
 
 pub returns : goal.returns
 returns c =
-    let h = c in
-    let s = h.args in
+    let s = c.args in
     let l = s.work.now in
-    let e : h.loop-y.y ≡ s.count = omega (arith, h.loop-y.invariant.0, c.loop-y-test.false) in (
-      h.loop-y.invariant.3 ∙ ap (λ (k : ℕ). steps_laid s.c s.from s.t s.to k l) e,
-      h.loop-y.invariant.2 ∙ ap (λ (k : ℕ). steps_refused s.c s.from s.t k l) e,
+    let e : c.loop-y.y ≡ s.count = omega (arith, c.loop-y.invariant.0, c.loop-y-test.false) in (
+      c.loop-y.invariant.3 ∙ ap (λ (k : ℕ). steps_laid s.c s.from s.t s.to k l) e,
+      c.loop-y.invariant.2 ∙ ap (λ (k : ℕ). steps_refused s.c s.from s.t k l) e,
     )
 
 pub overflow_mul-y : goal.overflow_mul-y
-overflow_mul-y c = let i = c in omega (arith, i.requires.stands i.loop-y.y i.loop-y-test.true)
+overflow_mul-y c = omega (arith, c.requires.stands c.loop-y.y c.loop-y-test.true)
 
 pub overflow_add-from : goal.overflow_add-from
-overflow_add-from c = let i = c in omega (arith, i.requires.stands i.loop-y.y i.loop-y-test.true)
+overflow_add-from c = omega (arith, c.requires.stands c.loop-y.y c.loop-y-test.true)
 
 pub overflow_mul-y-in-loop-y : goal.overflow_mul-y-in-loop-y
-overflow_mul-y-in-loop-y c = let i = c in omega (arith, i.requires.target i.loop-y.y i.loop-y-test.true)
+overflow_mul-y-in-loop-y c = omega (arith, c.requires.target c.loop-y.y c.loop-y-test.true)
 
 pub overflow_add-to : goal.overflow_add-to
-overflow_add-to c = let i = c in omega (arith, i.requires.target i.loop-y.y i.loop-y-test.true)
+overflow_add-to c = omega (arith, c.requires.target c.loop-y.y c.loop-y-test.true)

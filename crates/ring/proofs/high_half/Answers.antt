@@ -12,7 +12,7 @@ odd_row-requires c =
     let s = c.args in
     let n : s.high + s.c - s.high ≡ s.c = omega arith in
     let t : length (part s.work.now s.high s.c) ≡ s.c = length_part s.work.now s.high s.c (omega arith) in
-    rw (n, t) (record { high_in_bounds = omega arith; clear = c.requires.clear })
+    rw (n, t) (record { in_bounds = omega arith; clear = c.requires.clear })
 
 pub returns : goal.returns
 returns c =

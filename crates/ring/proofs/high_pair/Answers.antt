@@ -11,10 +11,10 @@ use Rattle.lifting.specs.Lift.{high_row}
 use Rattle.ring.proofs.high_pair.Goals as goal
 
 pub high_half-requires : goal.high_half-requires
-high_half-requires c = record { c_in_bounds = omega arith; clear = (inl (omega arith), inl (omega arith)) }
+high_half-requires c = record { in_bounds = omega arith; clear = (inl (omega arith), inl (omega arith)) }
 
 pub high_half-requires-2 : goal.high_half-requires-2
-high_half-requires-2 c = record { c_in_bounds = omega arith; clear = (inl (omega arith), inl (omega arith)) }
+high_half-requires-2 c = record { in_bounds = omega arith; clear = (inl (omega arith), inl (omega arith)) }
 
 pub returns : goal.returns
 returns c =

@@ -11,8 +11,8 @@ returns c =
     let d = c.decode_row-after in
     let left = c.args.reader.remaining in
     record {
-      bits_value = c.less.ensures ∙ ap (λ (r : Reader). left - r.remaining) d.ensures.result_value;
-      reader_value = d.ensures.result_value;
+      bits = c.less.ensures ∙ ap (λ (r : Reader). left - r.remaining) d.ensures.value;
+      reader_after = d.ensures.value;
       dst_after = d.ensures.dst_after;
-      ready_2 = d.ensures.ready_2;
+      still_ready = d.ensures.still_ready;
     }

@@ -22,10 +22,9 @@ loop-out-init c =
 
 pub returns-then-halts : goal.returns-then-halts
 returns-then-halts c =
-    let b = c in
-    let told = decoding-halted b.loop-out.invariant (as_reader b.args.reader) b.width_opening-first.ensures.result_value c.loop-out-test.true
-    (c.halts.ensures.0 c.if-halts.true) c.stop.result c.stop.ensures.result_value (c.stop.ensures.by_index _) in
-    record { result_value = told.0; dst_after = told.1.0; ready_2 = told.1.1 }
+    let told = decoding-halted c.loop-out.invariant (as_reader c.args.reader) c.width_opening-first.ensures.value c.loop-out-test.true
+    (c.halts.ensures.0 c.if-halts.true) c.stop.result c.stop.ensures.value (c.stop.ensures.still_ready _) in
+    record { value = told.0; dst_after = told.1.0; still_ready = told.1.1 }
 
 pub quick-far-requires : goal.quick-far-requires
 unfolding tab move_of length_of count_leading_zeros
@@ -36,29 +35,26 @@ quick-far-requires c =
     let more = c.loop-out-test.true in
     record {
       ready = l.ready;
-      status_value = (goes.0, omega (arith, l.same, s), omega (arith, l.same, more), goes.1, s.0);
+      going = (goes.0, omega (arith, l.same, s), omega (arith, l.same, more), goes.1, s.0);
       clean = (l.clean, (refl, refl));
     }
 
 -- the row after the quick part of a turn
 quicked : (c : After-quick-far)
-    → let b = (goal.at.After-quick-far c).At-loop-out in
-    let a = b.args in
-    let w = b.width_opening-first.result in
+    → let a = c.args in
+    let w = c.width_opening-first.result in
     let q = c.quick-far in
-    Decoding a.packet.now a.selector (length a.dst.now) (state_of w.value w.reader) b.clear.new.dst q.new.dst
+    Decoding a.packet.now a.selector (length a.dst.now) (state_of w.value w.reader) c.clear.new.dst q.new.dst
     q.result.reader q.result.width q.result.out
 quicked c =
-    let b = c in
     let q = c.quick-far in
-    decoding-on b.loop-out.invariant q.ensures.onward (omega (arith, q.ensures.done.inside, b.loop-out.invariant.same)) q.ensures.done.ready
+    decoding-on c.loop-out.invariant q.ensures.onward (omega (arith, q.ensures.done.inside, c.loop-out.invariant.same)) q.ensures.done.ready
 
 pub returns-then-halts-2 : goal.returns-then-halts-2
 returns-then-halts-2 c =
-    let b = c in
-    let told = decoding-halted (quicked (goal.at.returns-then-halts-2 c).After-quick-far) (as_reader b.args.reader) b.width_opening-first.ensures.result_value c.if-out-n.true
-    (c.halts-then-out-n.ensures.0 c.if-halts-2.true) c.stop-then-halts-2.result c.stop-then-halts-2.ensures.result_value (c.stop-then-halts-2.ensures.by_index _) in
-    record { result_value = told.0; dst_after = told.1.0; ready_2 = told.1.1 }
+    let told = decoding-halted (quicked (goal.at.returns-then-halts-2 c).After-quick-far) (as_reader c.args.reader) c.width_opening-first.ensures.value c.if-out-n.true
+    (c.halts-then-out-n.ensures.0 c.if-halts-2.true) c.stop-then-halts-2.result c.stop-then-halts-2.ensures.value (c.stop-then-halts-2.ensures.still_ready _) in
+    record { value = told.0; dst_after = told.1.0; still_ready = told.1.1 }
 
 pub plain-one-requires : goal.plain-one-requires
 plain-one-requires c =
@@ -68,7 +64,7 @@ plain-one-requires c =
     let more = c.if-out-n.true in
     record {
       ready = l.ready;
-      status_value = (goes.0, omega (arith, l.same, s), omega (arith, l.same, more), s.0, goes.1);
+      going = (goes.0, omega (arith, l.same, s), omega (arith, l.same, more), s.0, goes.1);
       clean = l.clean;
     }
 
@@ -76,13 +72,12 @@ pub loop-out-preserved-then-out-n : goal.loop-out-preserved-then-out-n
 loop-out-preserved-then-out-n c =
     let p = c.plain-one in
     let l = quicked (goal.at.loop-out-preserved-then-out-n c).After-quick-far in
-    decoding-on l p.ensures.onward (omega (arith, p.ensures.out_lt_out.1, l.same)) p.ensures.out_lt_out.2
+    decoding-on l p.ensures.onward (omega (arith, p.ensures.done.1, l.same)) p.ensures.done.2
 
 pub returns : goal.returns
 returns c =
-    let b = c in
-    let told = decoding-done b.loop-out.invariant (as_reader b.args.reader) b.width_opening-first.ensures.result_value (omega arith) in
-    record { result_value = told.0; dst_after = told.1.0; ready_2 = told.1.1 }
+    let told = decoding-done c.loop-out.invariant (as_reader c.args.reader) c.width_opening-first.ensures.value (omega arith) in
+    record { value = told.0; dst_after = told.1.0; still_ready = told.1.1 }
 
 pub width_opening-first-requires : goal.width_opening-first-requires
 width_opening-first-requires c = c.requires.ready
@@ -94,7 +89,7 @@ pub shape_of-dst-then-halts-2 : goal.shape_of-dst-then-halts-2
 shape_of-dst-then-halts-2 c = (quicked (goal.at.shape_of-dst-then-halts-2 c).After-quick-far).same
 
 pub loop-out-smaller-then-out-n : goal.loop-out-smaller-then-out-n
-loop-out-smaller-then-out-n c = let b = c in omega (arith, c.plain-one.ensures.out_lt_out.0, b.quick-far.ensures.done.forward, b.loop-out-test.true)
+loop-out-smaller-then-out-n c = omega (arith, c.plain-one.ensures.done.0, c.quick-far.ensures.done.forward, c.loop-out-test.true)
 
 pub loop-out-smaller : goal.loop-out-smaller
 loop-out-smaller c = omega (arith, c.if-out-n.false, c.loop-out-test.true)

@@ -24,7 +24,7 @@ at c =
 pub loop-h-init : goal.loop-h-init
 loop-h-init c =
     let s = c.requires in
-    let n = s.status_value in
+    let n = s.going in
     steps.state-first (called c) (record { ready = s.ready; go = n.0; below = omega (arith, n); wide = omega (arith, n) }) (omega (arith, n)) (omega (arith, n))
     s.clean.0 _ _ _ _ c.less-last.ensures c.edge-end.ensures c.less-room.ensures (omega arith, s.ready.bits)
 
@@ -43,7 +43,7 @@ took : (c : Else-over-2)
 took c =
     let b = (goal.at.Else-over-2 c).In-loop-h in
     let u = c.step_word-u in
-    steps.state-group b.loop-h.invariant (inside b) c.if-level-le0.false u.result u.ensures.level_value (c.over-else-level-le0.ensures.0 c.if-over-2.false)
+    steps.state-group b.loop-h.invariant (inside b) c.if-level-le0.false u.result u.ensures.step (c.over-else-level-le0.ensures.0 c.if-over-2.false)
 
 took-last : (c : Then-ends) → let w = c.above-w.result in steps.Took (at (goal.at.Then-ends c).At-loop-h) w (4 * w) w
 took-last c =
@@ -121,7 +121,7 @@ overflow_cast-w c = steps.inside-some (inside (goal.at.overflow_cast-w c).In-loo
 
 pub step_word-u-requires : goal.step_word-u-requires
 step_word-u-requires c = record {
-  le_width = steps.inside-short (inside (goal.at.step_word-u-requires c).In-loop-h) c.if-level-le0.false;
+  short = steps.inside-short (inside (goal.at.step_word-u-requires c).In-loop-h) c.if-level-le0.false;
   tables = c.requires.clean.1;
 }
 
@@ -143,7 +143,7 @@ pub quad_word-q-requires : goal.quad_word-q-requires
 quad_word-q-requires c = omega (arith, took c)
 
 pub scaled-requires : goal.scaled-requires
-scaled-requires c = omega (arith, c.requires.status_value)
+scaled-requires c = omega (arith, c.requires.going)
 
 pub put_quad-requires : goal.put_quad-requires
 put_quad-requires c = omega (arith, took (goal.at.put_quad-requires c).Else-over-2)
@@ -173,7 +173,7 @@ pub quad_word-q-requires-then-ends : goal.quad_word-q-requires-then-ends
 quad_word-q-requires-then-ends c = omega (arith, took-last c)
 
 pub scaled-requires-then-ends : goal.scaled-requires-then-ends
-scaled-requires-then-ends c = omega (arith, c.requires.status_value)
+scaled-requires-then-ends c = omega (arith, c.requires.going)
 
 pub put_quad-requires-then-ends : goal.put_quad-requires-then-ends
 put_quad-requires-then-ends c = omega (arith, took-last (goal.at.put_quad-requires-then-ends c).Then-ends)

@@ -10,9 +10,9 @@ pub signs-z-requires : goal.signs-z-requires
 signs-z-requires c =
     let q = c.read4-q.ensures.ready_below_four in
     let short = pow_mono {i = c.args.width} {j = 19} c.requires.width_bound.0 in record {
-      ready = c.width_next-n.ensures.ready_2;
+      ready = c.width_next-n.ensures.still_ready;
       selector_bound = c.requires.width_bound.1;
-      a_bound = (lt_of_lt_of_le q.a short, lt_of_lt_of_le q.b short, lt_of_lt_of_le q.c short, lt_of_lt_of_le q.d short);
+      short = (lt_of_lt_of_le q.a short, lt_of_lt_of_le q.b short, lt_of_lt_of_le q.c short, lt_of_lt_of_le q.d short);
     }
 
 pub returns : goal.returns
@@ -20,14 +20,14 @@ unfolding group_of
 returns c =
     let z = c.signs-z in
     let told = c.struct_told-1.given in record {
-      result_value = simp (
+      value = simp (
         to_z-of_z w32 z.result.a (record { sfits = told.0.1 }),
         to_z-of_z w32 z.result.b (record { sfits = told.1.0.1 }),
         to_z-of_z w32 z.result.c (record { sfits = told.1.1.0.1 }),
         to_z-of_z w32 z.result.d (record { sfits = told.1.1.1.0.1 }),
-        ← c.read4-q.ensures.result_value,
-        ← c.width_next-n.ensures.result_value,
-        ← z.ensures.result_value,
+        ← c.read4-q.ensures.value,
+        ← c.width_next-n.ensures.value,
+        ← z.ensures.value,
       );
-      ready_2 = z.ensures.ready_2;
+      still_ready = z.ensures.still_ready;
     }

@@ -13,21 +13,19 @@ use Rattle.rows.proofs.plain.Goals as goal
 
 pub returns-then-width-eq0 : goal.returns-then-width-eq0
 returns-then-width-eq0 c =
-    let b = c in
-    let a = b.args in
+    let a = c.args in
     let z = c.zero_groups-run in record {
-      onward = onward-run a.packet.now a.selector a.dst.now a.out (state_of a.width a.reader) b.requires.clean (as_run z.result) z.ensures.result_value b.requires.status_value.0 c.if-width-eq0.true
-          (omega (arith, b.requires.status_value)) z.ensures.groups_nonzero_2.0 z.ensures.groups_nonzero_2.1;
-      out_lt_out = (omega (arith, z.ensures.groups_nonzero_2), omega (arith, z.ensures.groups_nonzero_2, b.requires.status_value), z.ensures.ready_2);
+      onward = onward-run a.packet.now a.selector a.dst.now a.out (state_of a.width a.reader) c.requires.clean (as_run z.result) z.ensures.value c.requires.going.0 c.if-width-eq0.true
+          (omega (arith, c.requires.going)) z.ensures.some_groups.0 z.ensures.some_groups.1;
+      done = (omega (arith, z.ensures.some_groups), omega (arith, z.ensures.some_groups, c.requires.going), z.ensures.still_ready);
     }
 
 pub overflow_add-result-2 : goal.overflow_add-result-2
-overflow_add-result-2 c = omega (arith, c.requires.status_value)
+overflow_add-result-2 c = omega (arith, c.requires.going)
 
 pub returns : goal.returns
 returns c =
-    let b = c in
-    let a = b.args in
+    let a = c.args in
     let g = c.group-q in
     let v = g.result in
     let p = c.put4 in
@@ -42,7 +40,7 @@ returns c =
       to_z-of_z w32 v.c (record { sfits = told.1.1.0.1 }),
       to_z-of_z w32 v.d (record { sfits = told.1.1.1.0.1 }),
     ) in record {
-      onward = onward-group a.packet.now a.selector d at (state_of a.width a.reader) b.requires.clean v.a v.b v.c v.d v.width (as_reader v.reader) g.ensures.result_value
-          b.requires.status_value.0 (omega (arith, b.requires.status_value)) c.if-width-eq0.false (omega (arith, b.requires.status_value)) p.new.dst stored;
-      out_lt_out = (omega arith, omega (arith, b.requires.status_value), g.ensures.ready_2);
+      onward = onward-group a.packet.now a.selector d at (state_of a.width a.reader) c.requires.clean v.a v.b v.c v.d v.width (as_reader v.reader) g.ensures.value
+          c.requires.going.0 (omega (arith, c.requires.going)) c.if-width-eq0.false (omega (arith, c.requires.going)) p.new.dst stored;
+      done = (omega arith, omega (arith, c.requires.going), g.ensures.still_ready);
     }

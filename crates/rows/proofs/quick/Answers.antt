@@ -13,6 +13,6 @@ fast_scaled-requires c =
     let pre = c.requires in
     record {
       ready = pre.ready;
-      status_value = (omega arith, omega arith, omega arith, omega arith, omega arith, omega arith);
+      going = (omega arith, omega arith, omega arith, omega arith, omega arith, omega arith);
       clean = pre.clean;
     }

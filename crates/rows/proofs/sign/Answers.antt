@@ -16,18 +16,17 @@ returns-then-z-gt0 c =
     let z = to_z-of_z w32 a.args.z a.ranges.z in
     let range : SFits w32 c.with_sign.result = search rules in
     record {
-      result_value = simp (z, rw z at t.if-z-gt0.true, ← t.read-t.ensures.result_value, to_z-of_z w32 c.with_sign.result range ∙ c.with_sign.ensures);
+      value = simp (z, rw z at t.if-z-gt0.true, ← t.read-t.ensures.value, to_z-of_z w32 c.with_sign.result range ∙ c.with_sign.ensures);
       ready = t.read-t.ensures.ready_below.ready;
     }
 
 pub returns : goal.returns
 unfolding sign_of
 returns c =
-    let a = c in
-    let z = to_z-of_z w32 a.args.z a.ranges.z in
+    let z = to_z-of_z w32 c.args.z c.ranges.z in
     record {
-      result_value = simp (z, rw z at c.if-z-gt0.false);
-      ready = a.requires;
+      value = simp (z, rw z at c.if-z-gt0.false);
+      ready = c.requires;
     }
 
 pub with_sign-requires : goal.with_sign-requires

@@ -11,8 +11,7 @@ use Rattle.rows.proofs.sign_bit.Goals as goal
 pub returns-then-v-gt0 : goal.returns-then-v-gt0
 unfolding sign_bit_of
 returns-then-v-gt0 c =
-    let a = c in
-    let z = to_z-of_z w32 a.args.v a.ranges.v in
+    let z = to_z-of_z w32 c.args.v c.ranges.v in
     let range : SFits w32 c.with_sign.result = search rules in
     record {
       value = simp (z, rw z at c.if-v-gt0.true, to_z-of_z w32 c.with_sign.result range ∙ c.with_sign.ensures);
@@ -22,8 +21,7 @@ returns-then-v-gt0 c =
 pub returns : goal.returns
 unfolding sign_bit_of
 returns c =
-    let a = c in
-    let z = to_z-of_z w32 a.args.v a.ranges.v in
+    let z = to_z-of_z w32 c.args.v c.ranges.v in
     record {
       value = simp (z, rw z at c.if-v-gt0.false);
       used_bound = omega arith;

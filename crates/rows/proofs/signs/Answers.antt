@@ -20,7 +20,7 @@ skip-requires c =
     let h = s1 in
     record {
       ready = h.requires.ready;
-      n_le_remaining = omega (arith, s1.sign_bit-a.ensures.used_bound, s2.sign_bit-b.ensures.used_bound, s3.sign_bit-c.ensures.used_bound, c.sign_bit-d.ensures.used_bound, h.if-reader-lt4.false);
+      left = omega (arith, s1.sign_bit-a.ensures.used_bound, s2.sign_bit-b.ensures.used_bound, s3.sign_bit-c.ensures.used_bound, c.sign_bit-d.ensures.used_bound, h.if-reader-lt4.false);
     }
 
 pub returns : goal.returns
@@ -47,12 +47,12 @@ returns c =
     let ua = a.ensures.used_bound in
     let ub = b.ensures.used_bound in
     let uc = c'.ensures.used_bound in record {
-      result_value = simp (
+      value = simp (
         to_z-of_z w32 a.result.value (record { sfits = c.struct_told-1.given.0.1 }),
         to_z-of_z w32 b.result.value (record { sfits = c.struct_told-2-1.given.0.1 }),
         to_z-of_z w32 c'.result.value (record { sfits = c.struct_told-3-1.given.0.1 }),
         to_z-of_z w32 d.result.value (record { sfits = c.struct_told-4-1.given.0.1 }),
-        c.skip.ensures.result_value,
+        c.skip.ensures.value,
       )
           (signs-word g.args.packet.now (as_reader g.args.reader) w h.ahead-word.ensures h.if-reader-lt4.false g.args.selector (as_four g.args.q)
           a.result b.result c'.result d.result (omega arith) (omega arith) (omega arith)
@@ -60,5 +60,5 @@ returns c =
           (b.ensures.value ∙ ap (λ (m : ℤ). sign_bit_of m w a.result.used) (to_z-of_z w32 b0.result fb ∙ b0.ensures))
           (c'.ensures.value ∙ ap (λ (m : ℤ). sign_bit_of m w b.result.used) (to_z-of_z w32 c0.result fc ∙ c0.ensures))
           (d.ensures.value ∙ ap (λ (m : ℤ). sign_bit_of m w c'.result.used) (to_z-of_z w32 d0.result fd ∙ d0.ensures)));
-      ready_2 = c.skip.ensures.ready_2;
+      still_ready = c.skip.ensures.still_ready;
     }

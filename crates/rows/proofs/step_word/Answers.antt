@@ -47,7 +47,7 @@ overflow_cast-level-2 c = rw (move-is (goal.at.overflow_cast-level-2 c).Start) (
 pub overflow_add-level : goal.overflow_add-level
 overflow_add-level c =
     let s = (goal.at.overflow_add-level c).Start in
-    rw (level-is s) (level-fits s.args.width (first s) s.requires.le_width.1)
+    rw (level-is s) (level-fits s.args.width (first s) s.requires.short.1)
 
 -- the bits of the update
 bits_is : (c : After-pick-bits)
@@ -55,7 +55,7 @@ bits_is : (c : After-pick-bits)
     c.pick-bits.result ≡ cond (le_z (level s) (pos 0)) (s.args.width + 1) (length_of (first s)))
 bits_is c =
     let s = (goal.at.After-pick-bits c).Start in
-    let f = level-fits s.args.width (first s) s.requires.le_width.1 in
+    let f = level-fits s.args.width (first s) s.requires.short.1 in
     simp (level-is s, size_is s, to_z-of_z) at c.pick-bits.ensures
 
 -- the width by the update's zeros
@@ -69,7 +69,7 @@ returns-then-bits-gt16 c =
     let u = (goal.at.returns-then-bits-gt16 c).After-changed-u in
     let plain = to_z_pos w64 u.changed-u.result.width (omega (arith, width_few u)) in
     record {
-      level_value = rw (plain, level-pos, u.changed-u.ensures.0) (refl, refl);
+      step = rw (plain, level-pos, u.changed-u.ensures.0) (refl, refl);
       used_bound = omega (arith, u.changed-u.ensures.1);
     }
 
@@ -77,11 +77,11 @@ pub returns : goal.returns
 returns c =
     let p = (goal.at.returns c).After-pick-bits in
     let s = (goal.at.After-pick-bits p).Start in
-    let f = level-fits s.args.width (first s) s.requires.le_width.1 in
+    let f = level-fits s.args.width (first s) s.requires.short.1 in
     let most : p.pick-bits.result ≤ 16 = omega arith in
-    let e = change-table (rest s) s.args.width (omega arith) s.requires.le_width.0 (rw (bits_is p) at most) in
+    let e = change-table (rest s) s.args.width (omega arith) s.requires.short.0 (rw (bits_is p) at most) in
     record {
-      level_value = simp (level-is s, to_z-of_z, bits_is p) (e.0, ap (λ (n : ℕ). 4 * s.args.width + n) e.1);
+      step = simp (level-is s, to_z-of_z, bits_is p) (e.0, ap (λ (n : ℕ). 4 * s.args.width + n) e.1);
       used_bound = omega arith;
     }
 

@@ -5,8 +5,8 @@ use Rattle.rows.proofs.width_after.Goals as goal
 
 pub returns-then-left-eq0 : goal.returns-then-left-eq0
 unfolding width_after
-returns-then-left-eq0 c = record { result_value = simp (eq-eqb _ _ c.if-left-eq0.true); ready = c.requires }
+returns-then-left-eq0 c = record { value = simp (eq-eqb _ _ c.if-left-eq0.true); ready = c.requires }
 
 pub returns : goal.returns
 unfolding width_after
-returns c = record { result_value = simp (ne_eqb _ _ c.if-left-eq0.false, c.unary.ensures.result_value); ready = c.unary.ensures.ready_below.ready }
+returns c = record { value = simp (ne_eqb _ _ c.if-left-eq0.false, c.unary.ensures.value); ready = c.unary.ensures.ready_below.ready }

@@ -5,11 +5,11 @@ use Rattle.rows.proofs.width_next.Goals as goal
 
 pub returns-then-groups-le1 : goal.returns-then-groups-le1
 unfolding width_next
-returns-then-groups-le1 c = record { result_value = simp (le-leb _ _ c.if-groups-le1.true); ready_2 = c.requires.ready }
+returns-then-groups-le1 c = record { value = simp (le-leb _ _ c.if-groups-le1.true); still_ready = c.requires.ready }
 
 pub returns : goal.returns
 unfolding width_next
 returns c = record {
-  result_value = simp (lt-leb _ _ c.if-groups-le1.false, c.width_update.ensures.result_value);
-  ready_2 = c.width_update.ensures.ready_2;
+  value = simp (lt-leb _ _ c.if-groups-le1.false, c.width_update.ensures.value);
+  still_ready = c.width_update.ensures.still_ready;
 }

@@ -10,7 +10,7 @@ returns c =
     let n = (goal.at.returns c).After-width_after-n in
     let run = n in
     record {
-      result_value = simp (← run.zero_run-run.ensures.result_value, ← n.width_after-n.ensures.result_value);
-      ready_2 = n.width_after-n.ensures.ready;
-      groups_nonzero_2 = (run.zero_run-run.ensures.value_nonzero run.requires.groups_nonzero.0, omega (arith, run.zero_run-run.ensures.ready_below.bound));
+      value = simp (← run.zero_run-run.ensures.value, ← n.width_after-n.ensures.value);
+      still_ready = n.width_after-n.ensures.ready;
+      some_groups = (run.zero_run-run.ensures.some run.requires.some.0, omega (arith, run.zero_run-run.ensures.ready_below.bound));
     }

@@ -20,7 +20,7 @@ returns-in_default c =
     let a = c.args in
     let same : ◌≡◌ {A = LocatedTile} answer.Nothing (located_tile_of (alone a.strip.now a.full_w a.full_h)) =
     dropped _ _ (lone-invalid a.strip.now a.full_w a.full_h _ (told-not _ _ _ stream_at.ensures c.in_default.is c.parse_stream_header.ensures.header_says)) in
-    record { value = same; result_value = ap answer_number same ∙ number_is (alone a.strip.now a.full_w a.full_h) }
+    record { value = same; refusal = ap answer_number same ∙ number_is (alone a.strip.now a.full_w a.full_h) }
 
 pub stream_length-length-requires : goal.stream_length-length-requires
 unfolding alone
@@ -42,7 +42,7 @@ returns-then-not-holds_payload c =
     let pay : stream-length.result - 128 ≡ payload s = rw (← stream_at.ensures) (omega (arith, stream-length.ensures.0)) in
     let same : ◌≡◌ {A = LocatedTile} answer.Nothing (located_tile_of (alone a.strip.now a.full_w a.full_h)) =
     dropped _ _ (lone-by a.strip.now a.full_w a.full_h s false (eqb (width s) a.full_w) (eqb (coded_height s) a.full_h) sound.0 (rw (← pay) (sym holds-payload.ensures ∙ c.if-not-holds_payload.true)) refl refl) in
-    record { value = same; result_value = ap answer_number same ∙ number_is (alone a.strip.now a.full_w a.full_h) }
+    record { value = same; refusal = ap answer_number same ∙ number_is (alone a.strip.now a.full_w a.full_h) }
 
 pub returns-then-h-full_w : goal.returns-then-h-full_w
 unfolding alone
@@ -58,7 +58,7 @@ returns-then-h-full_w c =
     let pay : stream-length.result - 128 ≡ payload s = rw (← stream_at.ensures) (omega (arith, stream-length.ensures.0)) in
     let same : ◌≡◌ {A = LocatedTile} answer.Nothing (located_tile_of (alone a.strip.now a.full_w a.full_h)) =
     dropped _ _ (lone-by a.strip.now a.full_w a.full_h s true false (eqb (coded_height s) a.full_h) sound.0 (rw (← pay) (sym holds-payload.ensures ∙ c.if-not-holds_payload.false)) (rw (← sound.2) (ne_eqb _ _ c.if-h-full_w.true)) refl) in
-    record { value = same; result_value = ap answer_number same ∙ number_is (alone a.strip.now a.full_w a.full_h) }
+    record { value = same; refusal = ap answer_number same ∙ number_is (alone a.strip.now a.full_w a.full_h) }
 
 pub returns-then-h-full_h : goal.returns-then-h-full_h
 unfolding alone
@@ -75,7 +75,7 @@ returns-then-h-full_h c =
     let pay : stream-length.result - 128 ≡ payload s = rw (← stream_at.ensures) (omega (arith, stream-length.ensures.0)) in
     let same : ◌≡◌ {A = LocatedTile} answer.Nothing (located_tile_of (alone a.strip.now a.full_w a.full_h)) =
     dropped _ _ (lone-by a.strip.now a.full_w a.full_h s true true false sound.0 (rw (← pay) (sym holds-payload.ensures ∙ if1.false)) (rw (← sound.2) (eq-eqb _ _ c.if-h-full_w.false)) (rw (← sound.3) (ne_eqb _ _ c.if-h-full_h.true))) in
-    record { value = same; result_value = ap answer_number same ∙ number_is (alone a.strip.now a.full_w a.full_h) }
+    record { value = same; refusal = ap answer_number same ∙ number_is (alone a.strip.now a.full_w a.full_h) }
 
 pub returns : goal.returns
 unfolding alone
@@ -95,4 +95,4 @@ returns c =
     let pay : stream-length.result - 128 ≡ payload s = omega (arith, long) in
     let good = lone-by a.strip.now a.full_w a.full_h s true true true sound.0 (rw (← pay) (sym holds-payload.ensures ∙ if1.false)) (rw (← sound.2) (eq-eqb _ _ if2.false)) (rw (← sound.3) (eq-eqb _ _ if3.false)) in
     let same : ◌≡◌ {A = LocatedTile} (answer.Tile c.new.result) (located_tile_of (alone a.strip.now a.full_w a.full_h)) = rw c.new.ensures (kept s 512 _ _ _ _ _ _ _ _ good long refl refl (sym if2.false ∙ sound.2) (sym if3.false ∙ sound.3)) in
-    record { value = same; result_value = ap answer_number same ∙ number_is (alone a.strip.now a.full_w a.full_h) }
+    record { value = same; refusal = ap answer_number same ∙ number_is (alone a.strip.now a.full_w a.full_h) }

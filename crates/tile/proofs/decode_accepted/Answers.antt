@@ -12,10 +12,10 @@ use Rattle.tile.proofs.decode_accepted.Goals as goal
 
 -- the coded size of an accepted stream is small
 narrow : (h : Start) → h.args.w < 2 ^ 16
-narrow h = omega (arith, h.requires.w_value.0, h.requires.accepted.good.narrow)
+narrow h = omega (arith, h.requires.size.0, h.requires.accepted.good.narrow)
 
 low : (h : Start) → h.args.h < 2 ^ 17
-low h = omega (arith, h.requires.w_value.1, h.requires.accepted.good.low)
+low h = omega (arith, h.requires.size.1, h.requires.accepted.good.low)
 
 -- what is known of the lent slices
 module _ (c : After-work_length-c) where
@@ -38,8 +38,8 @@ module _ (c : After-work_length-c) where
   lent =
       record {
         ok = start.requires.accepted;
-        wide = start.requires.w_value.0;
-        tall = start.requires.w_value.1;
+        wide = start.requires.size.0;
+        tall = start.requires.size.1;
         many = guard.stripes-n.ensures.0;
         guard = guard.guarded-guarded.ensures;
         fulls = full.green_size-a.ensures;
@@ -74,11 +74,11 @@ returns c =
     let size = w.work_length-c.result - 0 in
     let long = length-take-le size a.work.now (omega (arith, work-room l)) in record {
       value = e.value;
-      full_after = (
-        plane-onto l green a.full.now _ ((full w).green_size-a.result - 0) e.full_after.0 (omega (arith, full_is l)),
-        plane-onto l red a.red.now _ ((half w).colour_size-b.result - 0) e.full_after.1 (omega (arith, half_is l)),
-        plane-onto l blue a.blue.now _ ((half w).colour_size-b.result - 0) e.full_after.2 (omega (arith, half_is l)),
-        work-onto l a.work.now _ size (e.full_after.3 ∙ ap zeros long) (omega (arith, work-is l)),
+      slices_after = (
+        plane-onto l green a.full.now _ ((full w).green_size-a.result - 0) e.slices_after.0 (omega (arith, full_is l)),
+        plane-onto l red a.red.now _ ((half w).colour_size-b.result - 0) e.slices_after.1 (omega (arith, half_is l)),
+        plane-onto l blue a.blue.now _ ((half w).colour_size-b.result - 0) e.slices_after.2 (omega (arith, half_is l)),
+        work-onto l a.work.now _ size (e.slices_after.3 ∙ ap zeros long) (omega (arith, work-is l)),
       );
     }
 

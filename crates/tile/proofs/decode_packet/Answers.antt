@@ -37,7 +37,7 @@ next_records-r-requires c =
     let g = rw i.group_of-g.ensures at d.held-h.ensures in
     let y = rw (i.group_of-g.ensures, k.index_of-k.ensures) at f.finishing-f.ensures in
     let told = records-ask s.stream.now p.good z r.0 r.1 r.2 s.p r.3 _ _ i.group_of-g.ensures k.index_of-k.ensures q.packet-q.result.now q.packet-q.ensures _ g _ y _ e.1 e.2 _ r.4 in
-    record { in_bounds = told.0; m_bound = told.1 }
+    record { in_bounds = told.0; shape = told.1 }
 
 pub returns : goal.returns
 returns c =

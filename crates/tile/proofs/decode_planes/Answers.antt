@@ -10,9 +10,8 @@ use Rattle.tile.proofs.decode_planes.Goals as goal
 
 pub loop-p-init : goal.loop-p-init
 loop-p-init c =
-    let h = c in
-    let s = h.args in
-    let p = h.requires in
+    let s = c.args in
+    let p = c.requires in
     (omega arith, refl, refl, refl, refl, c.none-counts.ensures ∙ counts_start s.stream.now, going_start s.stream.now s.z p.measured.1 _ _ _ _)
 
 pub decode_packet-requires : goal.decode_packet-requires
@@ -82,5 +81,5 @@ returns c =
     let n : l.loop-p.p ≡ 13 = omega (arith, i.0, e.loop-p-test.false) in
     let g = rw n at i.6 in record {
       value = i.5 ∙ ap (counts_by s.stream.now) n ∙ counts_all s.stream.now;
-      full_after = (g.green-done (omega arith), g.red-done (omega arith), g.blue-done (omega arith), c.clear.ensures ∙ ap zeros i.4);
+      slices_after = (g.green-done (omega arith), g.red-done (omega arith), g.blue-done (omega arith), c.clear.ensures ∙ ap zeros i.4);
     }

@@ -42,14 +42,13 @@ pub plane_rows-r-requires : goal.plane_rows-r-requires
 plane_rows-r-requires c = omega (arith, (accepted c).2, (accepted c).0.good.low)
 
 pub decode_accepted-counts-requires : goal.decode_accepted-counts-requires
-decode_accepted-counts-requires c = let ok = accepted (goal.at.decode_accepted-counts-requires c).Else-c-ne0 in record { accepted = ok.0; w_value = (ok.1, ok.2) }
+decode_accepted-counts-requires c = let ok = accepted (goal.at.decode_accepted-counts-requires c).Else-c-ne0 in record { accepted = ok.0; size = (ok.1, ok.2) }
 
 -- stopped is the sum of both counts
 pub overflow_add-result : goal.overflow_add-result
 overflow_add-result c =
-    let d = c in
-    let s = d.args.stream.now in
-    let b = tile-below s _ d.decode_accepted-counts.ensures.value in
+    let s = c.args.stream.now in
+    let b = tile-below s _ c.decode_accepted-counts.ensures.value in
     omega (arith, b)
 
 pub returns : goal.returns
@@ -66,8 +65,8 @@ returns c =
     let n = d.decode_accepted-counts.ensures in
     record {
       answer = accepted-answer s k none _ _ _ _ ok.1 ok.2 p.plane_rows-r.ensures.0 n.value;
-      greens = accepted-plane s k none green a.green.now _ n.full_after.0;
-      reds = accepted-plane s k none red a.red.now _ n.full_after.1;
-      blues = accepted-plane s k none blue a.blue.now _ n.full_after.2;
-      works = accepted-work s k none a.work.now _ n.full_after.3;
+      greens = accepted-plane s k none green a.green.now _ n.slices_after.0;
+      reds = accepted-plane s k none red a.red.now _ n.slices_after.1;
+      blues = accepted-plane s k none blue a.blue.now _ n.slices_after.2;
+      works = accepted-work s k none a.work.now _ n.slices_after.3;
     }

@@ -5,8 +5,7 @@ use Rattle.tile.proofs.held.Goals as goal
 
 pub returns : goal.returns
 returns c =
-    let k = c in
-    rw (c.ring_at.ensures.0, k.columns.ensures.0, k.multiplier.ensures.0) refl
+    rw (c.ring_at.ensures.0, c.columns.ensures.0, c.multiplier.ensures.0) refl
 
 pub ring_at-requires : goal.ring_at-requires
 ring_at-requires c = omega (arith, c.requires.1.small)

@@ -13,28 +13,24 @@ use Rattle.tile.proofs.packet_end.Goals as goal
 
 pub overflow_mul-ring : goal.overflow_mul-ring
 overflow_mul-ring c =
-    let h = c in
-    omega (arith, row-units h.args.z h.requires.0, h.requires.0.1.small)
+    omega (arith, row-units c.args.z c.requires.0, c.requires.0.1.small)
 
 pub slice_bounds-averages-end : goal.slice_bounds-averages-end
 slice_bounds-averages-end c =
-    let h = c in
-    let s = h.args in
-    let p = h.requires in
+    let s = c.args in
+    let p = c.requires in
     omega (arith, p.4, ring-room s.z.guarded s.z.w s.z.n p.0.0)
 
 pub slice_bounds-colour_plane-end : goal.slice_bounds-colour_plane-end
 slice_bounds-colour_plane-end c =
-    let h = c in
-    let s = h.args in
-    let p = h.requires in
+    let s = c.args in
+    let p = c.requires in
     omega (arith, p.4, ring-room s.z.guarded s.z.w s.z.n p.0.0)
 
 pub slice_bounds-colour_plane-end-in-11 : goal.slice_bounds-colour_plane-end-in-11
 slice_bounds-colour_plane-end-in-11 c =
-    let h = c in
-    let s = h.args in
-    let p = h.requires in
+    let s = c.args in
+    let p = c.requires in
     omega (arith, p.4, ring-room s.z.guarded s.z.w s.z.n p.0.0)
 
 pub final_rows-requires : goal.final_rows-requires
@@ -48,7 +44,7 @@ final_rows-requires c =
     let n = c.rows_of.ensures.0 in
     let w = row-units z p.0 in record {
       fits = (p.0, omega (arith, e), omega (arith, e), omega (arith, e, w, p.3));
-      from_bound = (omega (arith, planes-least z.guarded z.n p.0.0.tall), omega (arith, n), p.4 ∙ ap (λ (k : ℕ). k * z.w) (sym n));
+      lent = (omega (arith, planes-least z.guarded z.n p.0.0.tall), omega (arith, n), p.4 ∙ ap (λ (k : ℕ). k * z.w) (sym n));
     }
 
 pub returns-in-3 : goal.returns-in-3
@@ -108,9 +104,8 @@ returns-in-12 c = λ t m g.
 pub returns-in_default : goal.returns-in_default
 returns-in_default c =
     λ t m g.
-    let h = c in
-    let s = h.args in
-    let p = h.requires in
+    let s = c.args in
+    let p = c.requires in
     going_on t s.z p.0 _ _ _ _ s.p (omega (arith, p.2)) (omega (arith, p.2)) g
 
 pub rows_of-requires : goal.rows_of-requires

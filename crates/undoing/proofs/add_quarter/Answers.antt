@@ -23,14 +23,13 @@ loop-x-init c = let s = c.args in (search rules, refl, put-start s.work.now s.to
 
 pub loop-x-preserved : goal.loop-x-preserved
 loop-x-preserved c =
-    let h = c in
-    let s = h.args in
+    let s = c.args in
     let l = s.work.now in
-    let m = h.loop-x.work in
+    let m = c.loop-x.work in
     let n = s.n in
-    let x = h.loop-x.x in
-    let p = h.requires in
-    let e = h.loop-x.invariant.2 in
+    let x = c.loop-x.x in
+    let p = c.requires in
+    let e = c.loop-x.invariant.2 in
     let f1 : SFits w32 (at m (s.to + x)) = sfits_of c.quarter_back-arg-1.given in
     let f2 : SFits w32 (at m (s.a + x)) = sfits_of c.quarter_back-arg-in-loop-x-1.given in
     let f3 : SFits w32 (at m (s.b + x)) = sfits_of c.quarter_back-arg-in-loop-x-2-1.given in
@@ -40,7 +39,7 @@ loop-x-preserved c =
     λ o b. get_or-clear l m s.to n o x g (pos 0) e (omega arith) (omega arith) b ∙ sym (get_d_part l o n x (pos 0) (omega arith)) in
     let own : Clear s.to n s.to = inr (omega arith) in (
       omega arith,
-      simp length-set h.loop-x.invariant.1,
+      simp length-set c.loop-x.invariant.1,
       put_step l m s.to x g _ e (omega arith) (r ∙ (λ i. quarter_back (k s.to own i) (k s.a p.clear.0 i) (k s.b p.clear.1 i))),
     )
 

@@ -13,8 +13,7 @@ use Rattle.undoing.proofs.around_at.Goals as goal
 
 pub returns-then-x-eq0 : goal.returns-then-x-eq0
 returns-then-x-eq0 c =
-    let t = c in
-    let s = t.args in
+    let s = c.args in
     let f1 : SFits w32 (at s.row.now 1) = sfits_of c.wrapping_add-arg-1.given in
     let f2 : SFits w32 (at s.next.now 1) = sfits_of c.wrapping_add-arg-then-x-eq0-1.given in
     let e = read_back (simp to_z-of_z at c.wrapping_add.ensures) (add_w-fits _ _) in
@@ -22,8 +21,7 @@ returns-then-x-eq0 c =
 
 pub returns : goal.returns
 returns c =
-    let t = c in
-    let s = t.args in
+    let s = c.args in
     let R = s.row.now in
     let N = s.next.now in
     let x = s.x in

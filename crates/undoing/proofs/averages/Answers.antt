@@ -45,7 +45,7 @@ averages_at-requires c =
     let z : y - 1 < s.count = omega (arith, b) in
     let last = rows_apart k (y - 1) y z b in
     let off : Apart h.loop-y.prev s.c (s.to + y * s.c) s.c = rw i.2 last in record {
-      c_in_bounds = (
+      in_bounds = (
         omega (arith, rows-plane k y b),
         omega (arith, rows-to k y b, i.1),
         omega (arith, rows-from k (y - 1) z, i.1, i.2),

@@ -6,7 +6,6 @@ use Rattle.undoing.proofs.averages_at.Goals as goal
 
 pub returns : goal.returns
 returns c =
-    let q = c in
-    let s = q.args in
+    let s = c.args in
     let n : s.row + 2 * s.c - s.row ≡ 2 * s.c = omega arith in
-    rw n at q.averages_row.ensures
+    rw n at c.averages_row.ensures

@@ -25,7 +25,7 @@ loop-x-preserved c =
       search rules,
       q.average_at.auto.work ∙ i.1,
       q.average_at.ensures
-          ∙ average-step s.work.now h.loop-x.work s.row.now s.to s.prev s.cur s.c x p.c_in_bounds.1 p.apart.0 p.apart.1 (search rules) i.2 (x + 1) (search rules),
+          ∙ average-step s.work.now h.loop-x.work s.row.now s.to s.prev s.cur s.c x p.in_bounds.1 p.apart.0 p.apart.1 (search rules) i.2 (x + 1) (search rules),
     )
 
 pub returns-then-x-c : goal.returns-then-x-c
@@ -40,14 +40,13 @@ returns-then-x-c c =
     let b : x < s.c = search rules in
     let e : x + 1 ≡ s.c = omega (arith, b, t.loop-x-test.false) in
     q.average_at-then-x-c.ensures
-    ∙ average-step l h.loop-x.work s.row.now s.to s.prev s.cur s.c x p.c_in_bounds.1 p.apart.0 p.apart.1 b h.loop-x.invariant.2 x (omega (arith, e))
+    ∙ average-step l h.loop-x.work s.row.now s.to s.prev s.cur s.c x p.in_bounds.1 p.apart.0 p.apart.1 b h.loop-x.invariant.2 x (omega (arith, e))
     ∙ ap (λ (k : ℕ). put_at l s.to (tab k (λ x. average_back (at s.row.now (2 * x + 1)) (guess_at s.c (part l s.prev s.c) (part l s.cur s.c) x)))) e
 
 pub returns-else-x-c : goal.returns-else-x-c
 returns-else-x-c c =
-    let h = c in
-    let s = h.args in
+    let s = c.args in
     let l = s.work.now in
-    let e : h.loop-x.x ≡ s.c = omega (arith, h.loop-x.invariant.0, c.if-x-c.false) in
-    h.loop-x.invariant.2
+    let e : c.loop-x.x ≡ s.c = omega (arith, c.loop-x.invariant.0, c.if-x-c.false) in
+    c.loop-x.invariant.2
     ∙ ap (λ (k : ℕ). put_at l s.to (tab k (λ x. average_back (at s.row.now (2 * x + 1)) (guess_at s.c (part l s.prev s.c) (part l s.cur s.c) x)))) e

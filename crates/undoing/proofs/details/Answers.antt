@@ -47,9 +47,8 @@ detail_at-requires c =
 
 -- where it goes
 place : (c : After-detail_at)
-    → (let h = c in
-    let s = h.args in
-    s.at + c.detail_at.result * s.c ≡ s.at + detail_at s.e s.gap h.loop-y.y * s.c)
+    → (let s = c.args in
+    s.at + c.detail_at.result * s.c ≡ s.at + detail_at s.e s.gap c.loop-y.y * s.c)
 place c = let s = c.args in ap (λ (k : ℕ). s.at + k * s.c) c.detail_at.ensures
 
 pub details_at-requires : goal.details_at-requires

@@ -19,14 +19,13 @@ loop-x-init c = (search rules, refl, fill_start _ _)
 
 pub loop-x-preserved : goal.loop-x-preserved
 loop-x-preserved c =
-    let h = c in
-    let s = h.args in
-    let x = h.loop-x.x in
+    let s = c.args in
+    let x = c.loop-x.x in
     let f1 : SFits w32 (at s.row.now (2 * x)) = sfits_of c.wrapping_sub-arg-1.given in
     let f2 : SFits w32 c.around_at.result = sfits_of c.around_at.type_inv in
     let a = c.around_at.ensures in
     let e = read_back (simp to_z-of_z at c.wrapping_sub.ensures) (sub_w-fits _ _) in
-    (search rules, simp length-set h.loop-x.invariant.1, fill_step s.out.now h.loop-x.out x (detail_at s.row.now s.next.now) _ h.loop-x.invariant.2 (omega arith) (e ∙ ap (sub_w (at s.row.now (2 * x))) a))
+    (search rules, simp length-set c.loop-x.invariant.1, fill_step s.out.now c.loop-x.out x (detail_at s.row.now s.next.now) _ c.loop-x.invariant.2 (omega arith) (e ∙ ap (sub_w (at s.row.now (2 * x))) a))
 
 pub returns : goal.returns
 returns c =

@@ -10,10 +10,9 @@ use Rattle.undoing.proofs.half_back.Goals as goal
 pub returns : goal.returns
 unfolding half_back
 returns c =
-    let s = c in
-    let fh = s.ranges.h in
-    let fa = s.ranges.a in
-    let fb = s.ranges.b in
+    let fh = c.ranges.h in
+    let fa = c.ranges.a in
+    let fb = c.ranges.b in
     let f1 : SFits w32 c.wrapping_add.result = sfits_of c.wrapping_add.type_inv in
     let f2 : SFits w32 c.wrapping_sub.result = sfits_of c.wrapping_sub.type_inv in
     let e1 = simp to_z-of_z at c.wrapping_add.ensures in

@@ -28,9 +28,8 @@ returns-then-g c l ready staged =
 
 pub returns-else-g : goal.returns-else-g
 returns-else-g c l ready staged =
-    let k = c in
-    let s = k.args in
-    let p = k.requires in
+    let s = c.args in
+    let p = c.requires in
     let few = (as_many s.g.h s.g.m (rw p.1 at p.0.placed.shape)).0 in
     let n = c.if-g.false in
     staged-as s.g s.c s.from s.s l ready (omega (arith, n, few)) (omega (arith, n, few)) refl staged

@@ -9,16 +9,15 @@ use Rattle.undoing.proofs.less_row.Goals as goal
 
 pub sub_row-requires : goal.sub_row-requires
 sub_row-requires c =
-    let k = c in
-    let s = k.args in
+    let s = c.args in
     let g = s.g in
-    let p = k.requires in
+    let p = c.requires in
     let z = p.0 in
-    let e1 = k.row_at.ensures in
+    let e1 = c.row_at.ensures in
     let e2 = c.row_at-2.ensures in
     let in1 = z.within s.r p.1 in
     let in2 = z.within s.i p.2 in
-    let c1 : Clear k.row_at.result g.n c.row_at-2.result = rw (e1, e2) (row-clear g.start g.step g.n s.i s.r z.behind) in
+    let c1 : Clear c.row_at.result g.n c.row_at-2.result = rw (e1, e2) (row-clear g.start g.step g.n s.i s.r z.behind) in
     (omega (arith, e1, in1), omega (arith, e2, in2), c1)
 
 pub returns : goal.returns

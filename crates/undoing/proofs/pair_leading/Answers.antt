@@ -11,9 +11,8 @@ use Rattle.undoing.proofs.pair_leading.Goals as goal
 
 pub split_pair-requires : goal.split_pair-requires
 split_pair-requires c =
-    let k = c in
-    let s = k.args in
-    let p = k.requires in
+    let s = c.args in
+    let p = c.requires in
     (p.0, p.1, (as_many s.g.h s.g.m (rw p.2 at p.0.placed.shape)).0)
 
 pub undo_high-requires : goal.undo_high-requires

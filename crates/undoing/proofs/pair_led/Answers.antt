@@ -10,9 +10,8 @@ use Rattle.undoing.proofs.pair_led.Goals as goal
 
 pub split_pair-requires : goal.split_pair-requires
 split_pair-requires c =
-    let k = c in
-    let s = k.args in
-    let p = k.requires in
+    let s = c.args in
+    let p = c.requires in
     let same : s.g.m ≡ s.g.h = rw p.2 at p.0.placed.shape in
     (p.0, p.1, omega (arith, same))
 

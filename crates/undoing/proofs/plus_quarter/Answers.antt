@@ -9,20 +9,19 @@ use Rattle.undoing.proofs.plus_quarter.Goals as goal
 
 pub add_quarter-requires : goal.add_quarter-requires
 add_quarter-requires c =
-    let k = c in
-    let s = k.args in
+    let s = c.args in
     let g = s.g in
-    let p = k.requires in
+    let p = c.requires in
     let z = p.0 in
-    let e1 = k.row_at.ensures in
+    let e1 = c.row_at.ensures in
     let e2 = c.row_at-2.ensures in
     let e3 = c.row_at-3.ensures in
     let in1 = z.within s.r p.1 in
     let in2 = z.within s.i p.2 in
     let in3 = z.within s.j p.3 in
-    let c1 : Clear k.row_at.result g.n c.row_at-2.result = rw (e1, e2) (row-clear g.start g.step g.n s.i s.r z.behind) in
-    let c2 : Clear k.row_at.result g.n c.row_at-3.result = rw (e1, e3) (row-clear g.start g.step g.n s.j s.r z.behind) in
-    record { n_in_bounds = (omega (arith, e1, in1), omega (arith, e2, in2), omega (arith, e3, in3)); clear = (c1, c2) }
+    let c1 : Clear c.row_at.result g.n c.row_at-2.result = rw (e1, e2) (row-clear g.start g.step g.n s.i s.r z.behind) in
+    let c2 : Clear c.row_at.result g.n c.row_at-3.result = rw (e1, e3) (row-clear g.start g.step g.n s.j s.r z.behind) in
+    record { in_bounds = (omega (arith, e1, in1), omega (arith, e2, in2), omega (arith, e3, in3)); clear = (c1, c2) }
 
 pub returns : goal.returns
 returns c =

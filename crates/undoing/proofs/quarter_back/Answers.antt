@@ -10,10 +10,9 @@ use Rattle.undoing.proofs.quarter_back.Goals as goal
 pub returns : goal.returns
 unfolding quarter_back
 returns c =
-    let s = c in
-    let fl = s.ranges.l in
-    let fp = s.ranges.p in
-    let fc = s.ranges.c in
+    let fl = c.ranges.l in
+    let fp = c.ranges.p in
+    let fc = c.ranges.c in
     let f1 : SFits w32 c.wrapping_add.result = sfits_of c.wrapping_add.type_inv in
     let f2 : SFits w32 c.wrapping_add-2.result = sfits_of c.wrapping_add-2.type_inv in
     let f3 : SFits w32 c.wrapping_add-3.result = sfits_of c.wrapping_add-3.type_inv in

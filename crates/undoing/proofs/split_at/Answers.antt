@@ -18,9 +18,8 @@ row_at-requires c = let s = c.args in let p = c.requires in omega (arith, p.0.pl
 
 pub split_row-requires : goal.split_row-requires
 split_row-requires c =
-    let k = c in
-    let s = k.args in
-    let p = k.requires in
+    let s = c.args in
+    let p = c.requires in
     let z = p.0 in
     let e = c.row_at.ensures in
     let off : Apart (s.from + s.r * s.s) (2 * s.c) c.row_at.result (2 * s.c) = rw e (z.apart s.r s.r p.1 p.1) in

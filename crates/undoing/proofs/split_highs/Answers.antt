@@ -43,7 +43,6 @@ returns-then-x-c c =
 
 pub returns-else-x-c : goal.returns-else-x-c
 returns-else-x-c c =
-    let h = c in
-    let s = h.args in
-    let e : h.loop-x.x ≡ s.c = omega (arith, h.loop-x.invariant.0, c.if-x-c.false) in
-    h.loop-x.invariant.2 ∙ ap (λ (k : ℕ). put_at s.work.now s.to (tab k (highs_of low_leads s.c (at (part s.work.now s.from (2 * s.c)))))) e
+    let s = c.args in
+    let e : c.loop-x.x ≡ s.c = omega (arith, c.loop-x.invariant.0, c.if-x-c.false) in
+    c.loop-x.invariant.2 ∙ ap (λ (k : ℕ). put_at s.work.now s.to (tab k (highs_of low_leads s.c (at (part s.work.now s.from (2 * s.c)))))) e

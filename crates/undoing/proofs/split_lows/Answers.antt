@@ -23,7 +23,7 @@ loop-x-preserved c =
       omega (arith, b),
       q.split_low.auto.work ∙ i.1,
       q.split_low.ensures
-          ∙ low_step s.work.now h.loop-x.work s.from s.high s.to s.c x p.c_in_bounds.2 p.apart.0 p.apart.1 (omega (arith, b)) i.2 b,
+          ∙ low_step s.work.now h.loop-x.work s.from s.high s.to s.c x p.in_bounds.2 p.apart.0 p.apart.1 (omega (arith, b)) i.2 b,
     )
 
 pub returns-then-c-gt0 : goal.returns-then-c-gt0
@@ -37,13 +37,12 @@ returns-then-c-gt0 c =
     let i = h.loop-x.invariant in
     let e : x + 1 ≡ s.c = omega (arith, i.0, t.if-c-gt0.true, t.loop-x-test.false) in
     q.split_low-then-c-gt0.ensures
-    ∙ low_first s.work.now h.loop-x.work s.from s.high s.to s.c x p.c_in_bounds.2 p.apart.0 p.apart.1 (omega (arith, e)) i.2 e
+    ∙ low_first s.work.now h.loop-x.work s.from s.high s.to s.c x p.in_bounds.2 p.apart.0 p.apart.1 (omega (arith, e)) i.2 e
 
 pub returns-else-c-gt0 : goal.returns-else-c-gt0
 returns-else-c-gt0 c =
-    let h = c in
-    let s = h.args in
-    let p = h.requires in
-    let i = h.loop-x.invariant in
+    let s = c.args in
+    let p = c.requires in
+    let i = c.loop-x.invariant in
     let none : s.c ≡ 0 = omega (arith, c.if-c-gt0.false) in
-    low-none s.work.now h.loop-x.work s.from s.high s.to s.c h.loop-x.x p.c_in_bounds.2 p.apart.0 p.apart.1 i.2 (omega (arith, i.0, none)) none
+    low-none s.work.now c.loop-x.work s.from s.high s.to s.c c.loop-x.x p.in_bounds.2 p.apart.0 p.apart.1 i.2 (omega (arith, i.0, none)) none

@@ -20,13 +20,12 @@ split_highs-requires c =
 
 pub split_lows-requires : goal.split_lows-requires
 split_lows-requires c =
-    let h = c in
-    let s = h.args in
-    let p = h.requires in
+    let s = c.args in
+    let p = c.requires in
     let l = s.work.now in
     let n = length-tab s.c (highs_of low_leads s.c (at (part l s.from (2 * s.c)))) in
-    let e = ap length h.split_highs.ensures ∙ length-put l (s.to + s.c) (tab s.c (highs_of low_leads s.c (at (part l s.from (2 * s.c))))) (omega (arith, n)) in
-    record { c_in_bounds = (omega (arith, e), omega (arith, e), omega (arith, e)); apart = (apart-front s.from (2 * s.c) s.to s.c p.2, inr (omega arith)) }
+    let e = ap length c.split_highs.ensures ∙ length-put l (s.to + s.c) (tab s.c (highs_of low_leads s.c (at (part l s.from (2 * s.c))))) (omega (arith, n)) in
+    record { in_bounds = (omega (arith, e), omega (arith, e), omega (arith, e)); apart = (apart-front s.from (2 * s.c) s.to s.c p.2, inr (omega arith)) }
 
 pub returns : goal.returns
 returns c =

@@ -23,11 +23,10 @@ less_half-requires c =
 
 pub less_half-requires-else-g : goal.less_half-requires-else-g
 less_half-requires-else-g c =
-    let e1 = c in
-    let s = e1.args in
-    let p = e1.requires in
+    let s = c.args in
+    let p = c.requires in
     let z = p.0 in
-    let same : s.g.m ≡ s.g.h = rw e1.if-g.false at z.shape in
+    let same : s.g.m ≡ s.g.h = rw c.if-g.false at z.shape in
     let l = c.least.ensures in
     (z, omega (arith, same, p.1), omega (arith, same, p.1), omega (arith, same, p.1, l))
 

@@ -15,9 +15,8 @@ loop-y-init c = let s = c.args in (search rules, refl, staged-none s.g s.c s.fro
 
 pub pair_leading-requires : goal.pair_leading-requires
 pair_leading-requires c =
-    let h = c in
-    let p = h.requires in
-    (rw h.loop-y.invariant.1 p.0, search rules, p.1)
+    let p = c.requires in
+    (rw c.loop-y.invariant.1 p.0, search rules, p.1)
 
 pub loop-y-preserved : goal.loop-y-preserved
 loop-y-preserved c =
@@ -33,9 +32,8 @@ loop-y-preserved c =
 
 pub last_leading-requires : goal.last_leading-requires
 last_leading-requires c =
-    let h = c in
-    let p = h.requires in
-    (rw h.loop-y.invariant.1 p.0, p.1)
+    let p = c.requires in
+    (rw c.loop-y.invariant.1 p.0, p.1)
 
 pub undo_low-requires : goal.undo_low-requires
 undo_low-requires c =

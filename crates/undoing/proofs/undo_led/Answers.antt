@@ -14,9 +14,8 @@ loop-y-init c = let s = c.args in (search rules, refl, staged-none s.g s.c s.fro
 
 pub pair_led-requires : goal.pair_led-requires
 pair_led-requires c =
-    let h = c in
-    let p = h.requires in
-    (rw h.loop-y.invariant.1 p.0, search rules, p.1)
+    let p = c.requires in
+    (rw c.loop-y.invariant.1 p.0, search rules, p.1)
 
 pub loop-y-preserved : goal.loop-y-preserved
 loop-y-preserved c =
@@ -32,11 +31,10 @@ loop-y-preserved c =
 
 pub undo_high-requires : goal.undo_high-requires
 undo_high-requires c =
-    let h = c in
-    let s = h.args in
-    let p = h.requires in
+    let s = c.args in
+    let p = c.requires in
     let same : s.g.m ≡ s.g.h = rw p.1 at p.0.placed.shape in
-    (rw h.loop-y.invariant.1 p.0.placed, omega (arith, same, p.0.placed.some))
+    (rw c.loop-y.invariant.1 p.0.placed, omega (arith, same, p.0.placed.some))
 
 pub undo_low-requires : goal.undo_low-requires
 undo_low-requires c =

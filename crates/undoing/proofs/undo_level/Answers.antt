@@ -11,7 +11,7 @@ ready : (k : Start) → Ready (columns k.args.leads k.args.h k.args.m k.args.c k
 ready k =
     let s = k.args in
     let p = k.requires.within in
-    let q = k.requires.le_c in
+    let q = k.requires.shape in
     level-ready s.leads s.h s.m s.c s.from s.s s.to s.t (length s.work.now) q.3 q.2 q.0 q.1 p.0 p.1 p.2
 
 pub returns-then-leads : goal.returns-then-leads
@@ -29,7 +29,7 @@ returns-else-leads c =
     level-undone s.leads s.h s.m s.c s.from s.s s.to s.t s.work.now _ (ready k) q.undo_led.ensures
 
 pub overflow_mul-g : goal.overflow_mul-g
-overflow_mul-g c = omega (arith, c.requires.within.1 0 (omega (arith, c.requires.le_c.2)))
+overflow_mul-g c = omega (arith, c.requires.within.1 0 (omega (arith, c.requires.shape.2)))
 
 pub undo_leading-requires : goal.undo_leading-requires
 undo_leading-requires c = (ready (goal.at.undo_leading-requires c).Start, c.if-leads.true)

@@ -11,39 +11,35 @@ use Rattle.undoing.proofs.undo_low.Goals as goal
 
 pub overflow_sub-g : goal.overflow_sub-g
 overflow_sub-g c =
-    let t1 = c in
-    let s = t1.args in
-    let z = t1.requires.0 in
-    let few = as_many s.g.h s.g.m (rw t1.if-g.true at z.shape) in
+    let s = c.args in
+    let z = c.requires.0 in
+    let few = as_many s.g.h s.g.m (rw c.if-g.true at z.shape) in
     omega (arith, few.0, z.some)
 
 pub plus_quarter-requires : goal.plus_quarter-requires
 plus_quarter-requires c =
-    let t1 = c in
-    let s = t1.args in
-    let p = t1.requires in
+    let s = c.args in
+    let p = c.requires in
     let z = p.0 in
-    let few = as_many s.g.h s.g.m (rw t1.if-g.true at z.shape) in
+    let few = as_many s.g.h s.g.m (rw c.if-g.true at z.shape) in
     let l = c.least.ensures in
     let y = p.1 in
     (z, omega (arith, y, few.0), omega (arith, y, few.0), omega (arith, y, few.0, few.1, l))
 
 pub plus_quarter-requires-then-y-eq0 : goal.plus_quarter-requires-then-y-eq0
 plus_quarter-requires-then-y-eq0 c =
-    let e1 = c in
-    let s = e1.args in
-    let p = e1.requires in
+    let s = c.args in
+    let p = c.requires in
     let z = p.0 in
-    let same : s.g.m ≡ s.g.h = rw e1.if-g.false at z.shape in
+    let same : s.g.m ≡ s.g.h = rw c.if-g.false at z.shape in
     (z, omega (arith, same, p.1), omega (arith, same, p.1), omega (arith, same, p.1))
 
 pub plus_quarter-requires-else-y-eq0 : goal.plus_quarter-requires-else-y-eq0
 plus_quarter-requires-else-y-eq0 c =
-    let e1 = c in
-    let s = e1.args in
-    let p = e1.requires in
+    let s = c.args in
+    let p = c.requires in
     let z = p.0 in
-    let same : s.g.m ≡ s.g.h = rw e1.if-g.false at z.shape in
+    let same : s.g.m ≡ s.g.h = rw c.if-g.false at z.shape in
     (z, omega (arith, same, p.1), omega (arith, same, p.1), omega (arith, same, p.1))
 
 pub returns-then-g : goal.returns-then-g

@@ -32,13 +32,12 @@ returns-then-k-gt63 c =
 
 pub returns : goal.returns
 returns c =
-    let at = c in
-    let s = at.args.s.now in
-    let i = at.if-last-i.i in
-    let place = at.args.place in
+    let s = c.args.s.now in
+    let i = c.if-last-i.i in
+    let place = c.args.place in
     let known = chosen (goal.at.returns c).Joined-last-i in
     ap (λ (w : ℕ). w * 2 ^ (place - 8 * i) % 2 ^ 64 / 2 ^ 7) c.load.ensures
-    ∙ window-bits s i (place - 8 * i) (λ j. (at.shared_slice_known-1.given j).fits) (omega arith) known.end
+    ∙ window-bits s i (place - 8 * i) (λ j. (c.shared_slice_known-1.given j).fits) (omega arith) known.end
     ∙ ap (λ (p : ℕ). bits_at s p 57) (omega arith)
 
 pub overflow_mul-k : goal.overflow_mul-k

@@ -18,7 +18,6 @@ returns-then-x-odd c =
 
 pub returns-else-x-odd : goal.returns-else-x-odd
 returns-else-x-odd c =
-    let s = c in
-    let f = s.ranges.x in
+    let f = c.ranges.x in
     read_back (simp to_z-of_z at c.wrapping_add-two.ensures) (add_w-fits _ _)
-    ∙ edge-plain s.args.odd s.args.x (simp (to_z-of_z, odd-bit) at c.if-x-odd.false)
+    ∙ edge-plain c.args.odd c.args.x (simp (to_z-of_z, odd-bit) at c.if-x-odd.false)

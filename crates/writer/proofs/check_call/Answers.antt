@@ -19,8 +19,7 @@ returns-then-no_height c =
 
 pub lengths_by-need-requires : goal.lengths_by-need-requires
 lengths_by-need-requires c =
-    let e = c in
-    (width_small _ (sym e.no_width.ensures ∙ e.if-no_width.false), height-small _ (sym c.no_height.ensures ∙ c.if-no_height.false))
+    (width_small _ (sym c.no_width.ensures ∙ c.if-no_width.false), height-small _ (sym c.no_height.ensures ∙ c.if-no_height.false))
 
 pub returns-then-need-ne0 : goal.returns-then-need-ne0
 returns-then-need-ne0 c =

@@ -26,7 +26,7 @@ returns-then-sizes-ne0 c =
 
 -- no length is refused
 fine : (c : Else-sizes-ne0) → let m = (goal.at.Else-sizes-ne0 c).After-measure-sizes in let s = m in let a = s.args in (v : Coefs) → Holds a.w a.h v a.work.now → lengths_refusal a.w a.h v ≡ 0
-fine c v h = let m = c in sym (m.measure-sizes.ensures v h).refusal ∙ c.if-sizes-ne0.false
+fine c v h = sym (c.measure-sizes.ensures v h).refusal ∙ c.if-sizes-ne0.false
 
 pub returns-then-stream-n : goal.returns-then-stream-n
 returns-then-stream-n c =

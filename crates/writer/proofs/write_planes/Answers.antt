@@ -23,7 +23,7 @@ stripes-n-requires c = omega (arith, c.requires.0.low)
 
 -- the plan is that of the coded size
 abbrev plan : After-guarded-guarded → Plan
-plan c = let s = c in record { w = s.args.w; n = c.stripes-n.result; guarded = c.guarded-guarded.result; slots = c.stripes-n.result + 1 }
+plan c = record { w = c.args.w; n = c.stripes-n.result; guarded = c.guarded-guarded.result; slots = c.stripes-n.result + 1 }
 
 planned : (c : After-guarded-guarded) → let s = (goal.at.After-guarded-guarded c).Start in plan c ≡ plan_of s.args.w s.args.h
 planned c =
@@ -51,8 +51,8 @@ numbers c =
 made : (c : After-recover-numbers) → let a = c.args in Recovered (plan_of a.w a.h) (lent c) c.recover-numbers.new.work
 made c = subst (λ (z : Plan). Recovered z (lent c) c.recover-numbers.new.work) (planned (goal.at.After-recover-numbers c).After-guarded-guarded) c.recover-numbers.ensures.recovered
 
-long : (c : After-recover-numbers) → let s = c in length c.recover-numbers.new.work ≡ work_length s.args.w s.args.h
-long c = c.recover-numbers.ensures.work_len_unchanged ∙ c.requires.1
+long : (c : After-recover-numbers) → length c.recover-numbers.new.work ≡ work_length c.args.w c.args.h
+long c = c.recover-numbers.ensures.same_length ∙ c.requires.1
 
 pub returns-then-numbers-ne0 : goal.returns-then-numbers-ne0
 returns-then-numbers-ne0 c =

@@ -11,16 +11,14 @@ loop-g-init c = (omega arith, sym (sum-none (group_of c.args.units.now)), omega 
 
 pub loop-g-preserved : goal.loop-g-preserved
 loop-g-preserved c =
-    let l = c in
-    let u = l.args.units.now in
+    let u = c.args.units.now in
     let e = c.group_units-total.ensures in
-    (omega arith, omega (arith, l.loop-g.invariant.1, e.0, sum-on (group_of u) l.loop-g.g), omega (arith, l.loop-g.invariant.2, e.1))
+    (omega arith, omega (arith, c.loop-g.invariant.1, e.0, sum-on (group_of u) c.loop-g.g), omega (arith, c.loop-g.invariant.2, e.1))
 
 pub returns : goal.returns
 returns c =
-    let l = c in
-    let e : l.loop-g.g ≡ 5 = omega (arith, l.loop-g.invariant.0) in
-    (l.loop-g.invariant.1 ∙ ap (sum (group_of l.args.units.now)) e, omega (arith, l.loop-g.invariant.2))
+    let e : c.loop-g.g ≡ 5 = omega (arith, c.loop-g.invariant.0) in
+    (c.loop-g.invariant.1 ∙ ap (sum (group_of c.args.units.now)) e, omega (arith, c.loop-g.invariant.2))
 
 pub overflow_add-total : goal.overflow_add-total
 overflow_add-total c = omega (arith, c.loop-g.invariant.2, c.group_units-total.ensures.1)

@@ -28,6 +28,5 @@ returns-then-k-entries c =
 pub returns-else-k-entries : goal.returns-else-k-entries
 unfolding entry_of
 returns-else-k-entries c =
-    let e = c in
-    let x = e.args in
-    (rw (le-ltb x.k (entries (numbered x.group)) (rw (← e.entries.ensures.0) c.if-k-entries.false)) refl, omega arith)
+    let x = c.args in
+    (rw (le-ltb x.k (entries (numbered x.group)) (rw (← c.entries.ensures.0) c.if-k-entries.false)) refl, omega arith)

@@ -27,10 +27,9 @@ loop-g-preserved c =
 
 pub returns : goal.returns
 returns c =
-    let l = c in
-    let u = l.args.units.now in
-    let e : l.loop-g.g ≡ 5 = omega (arith, l.loop-g.invariant.0) in
-    l.loop-g.invariant.1 ∙ ap (each (λ g. on (ltb 268435440 (16 * group_of u g)) 26)) e
+    let u = c.args.units.now in
+    let e : c.loop-g.g ≡ 5 = omega (arith, c.loop-g.invariant.0) in
+    c.loop-g.invariant.1 ∙ ap (each (λ g. on (ltb 268435440 (16 * group_of u g)) 26)) e
 
 pub overflow_mul-group_units : goal.overflow_mul-group_units
 overflow_mul-group_units c = omega (arith, c.group_units.ensures.1)

@@ -14,14 +14,12 @@ use Rattle.assembly.proofs.front.put_block.Goals as goal
 
 pub put-r-requires : goal.put-r-requires
 put-r-requires c =
-    let s = c in
-    (omega arith, omega (arith, c.entries.ensures.2), room-first _ _ 8 120 s.requires.3)
+    (omega arith, omega (arith, c.entries.ensures.2), room-first _ _ 8 120 c.requires.3)
 
 pub loop-k-init : goal.loop-k-init
 loop-k-init c =
-    let p = c in
-    let x = p.args in
-    (omega arith, appends-same _ _ _ _ _ _ (sym (rows_none (λ k. number_bits 24 (entry_of x.units.now x.group k)))) (appends-none _ _ p.put-r.ensures.few p.put-r.ensures.small))
+    let x = c.args in
+    (omega arith, appends-same _ _ _ _ _ _ (sym (rows_none (λ k. number_bits 24 (entry_of x.units.now x.group k)))) (appends-none _ _ c.put-r.ensures.few c.put-r.ensures.small))
 
 pub put-r-requires-in-loop-k : goal.put-r-requires-in-loop-k
 put-r-requires-in-loop-k c =

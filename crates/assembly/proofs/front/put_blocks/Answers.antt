@@ -11,9 +11,8 @@ use Rattle.assembly.proofs.front.put_blocks.Goals as goal
 
 pub loop-g-init : goal.loop-g-init
 loop-g-init c =
-    let s = c in
-    let p = s.requires.2 in
-    (omega arith, appends-same _ _ _ _ _ _ (sym (rows_none (block_of s.args.units.now))) (appends-none _ _ p.few p.small))
+    let p = c.requires.2 in
+    (omega arith, appends-same _ _ _ _ _ _ (sym (rows_none (block_of c.args.units.now))) (appends-none _ _ p.few p.small))
 
 pub put_block-r-requires : goal.put_block-r-requires
 put_block-r-requires c =
@@ -31,9 +30,8 @@ loop-g-preserved c =
 
 pub returns : goal.returns
 returns c =
-    let l = c in
-    let e : l.loop-g.g ≡ 5 = omega (arith, l.loop-g.invariant.0) in
-    appends-same _ _ _ _ _ _ (ap (blocks_of l.args.units.now) e) l.loop-g.invariant.1
+    let e : c.loop-g.g ≡ 5 = omega (arith, c.loop-g.invariant.0) in
+    appends-same _ _ _ _ _ _ (ap (blocks_of c.args.units.now) e) c.loop-g.invariant.1
 
 pub shape_of-out : goal.shape_of-out
 shape_of-out c = c.loop-g.invariant.1.long

@@ -31,7 +31,7 @@ mark-2 = omega arith
 
 -- room for all of them
 room : (c : After-new) → Room c.args.out.now c.new.result 128
-room c = let s = c in rw c.new.ensures (room-fresh s.args.out.now 128 (omega (arith, s.requires.2)))
+room c = rw c.new.ensures (room-fresh c.args.out.now 128 (omega (arith, c.requires.2)))
 
 pub put-a-requires : goal.put-a-requires
 put-a-requires c =

@@ -12,9 +12,8 @@ use Rattle.assembly.proofs.front.put_sizes.Goals as goal
 
 pub loop-g-init : goal.loop-g-init
 loop-g-init c =
-    let s = c in
-    let p = s.requires.2 in
-    (omega arith, appends-same _ _ _ _ _ _ (sym (rows_none (λ g. number_bits 24 (group_of s.args.units.now g)))) (appends-none _ _ p.few p.small))
+    let p = c.requires.2 in
+    (omega arith, appends-same _ _ _ _ _ _ (sym (rows_none (λ g. number_bits 24 (group_of c.args.units.now g)))) (appends-none _ _ p.few p.small))
 
 pub put-r-requires : goal.put-r-requires
 put-r-requires c =
@@ -33,9 +32,8 @@ loop-g-preserved c =
 
 pub returns : goal.returns
 returns c =
-    let l = c in
-    let e : l.loop-g.g ≡ 5 = omega (arith, l.loop-g.invariant.0) in
-    appends-same _ _ _ _ _ _ (ap (sizes_of l.args.units.now) e) l.loop-g.invariant.1
+    let e : c.loop-g.g ≡ 5 = omega (arith, c.loop-g.invariant.0) in
+    appends-same _ _ _ _ _ _ (ap (sizes_of c.args.units.now) e) c.loop-g.invariant.1
 
 pub shape_of-out : goal.shape_of-out
 shape_of-out c = c.loop-g.invariant.1.long

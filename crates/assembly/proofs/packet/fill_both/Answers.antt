@@ -5,8 +5,7 @@ use Rattle.assembly.proofs.packet.fill_both.Goals as goal
 
 pub fill_up-requires : goal.fill_up-requires
 fill_up-requires c =
-    let s = c in
-    rw (first_part s.args.out.now s.args.p s.requires.0) s.requires.1
+    rw (first_part c.args.out.now c.args.p c.requires.0) c.requires.1
 
 pub fill_up-requires-2 : goal.fill_up-requires-2
 fill_up-requires-2 c =

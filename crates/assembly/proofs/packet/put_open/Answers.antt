@@ -41,7 +41,7 @@ n56 = omega arith
 
 -- room for all of them
 room : (c : After-new) → Room c.args.out.now c.new.result 128
-room c = let s = c in rw c.new.ensures (room-fresh s.args.out.now 128 (omega (arith, s.requires.2)))
+room c = rw c.new.ensures (room-fresh c.args.out.now 128 (omega (arith, c.requires.2)))
 
 pub overflow_sub-head : goal.overflow_sub-head
 overflow_sub-head c =

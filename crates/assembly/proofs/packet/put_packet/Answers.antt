@@ -19,11 +19,11 @@ start : (c : After-head_bytes-p) → c.head_bytes-p.result ≡ 16 * head_units_o
 start c = c.head_bytes-p.ensures.0
 
 within : (c : After-head_bytes-p) → c.head_bytes-p.result ≤ length c.args.out.now
-within c = let s = c in head-within s.args.z s.args.l.now s.args.out.now _ (start c) s.requires.4
+within c = head-within c.args.z c.args.l.now c.args.out.now _ (start c) c.requires.4
 
 -- the units that are left are the payload's
 left : (c : After-head_bytes-p) → (length c.args.out.now - c.head_bytes-p.result) / 16 ≡ payload_of c.args.z c.args.l.now
-left c = let s = c in omega (arith, start c, s.requires.4)
+left c = omega (arith, start c, c.requires.4)
 
 pub put_open-head-requires : goal.put_open-head-requires
 put_open-head-requires c =

@@ -15,10 +15,9 @@ use Rattle.assembly.proofs.packet.put_records.Goals as goal
 
 pub loop-k-init : goal.loop-k-init
 loop-k-init c =
-    let s = c in
-    let x = s.args in
-    let none = packs-none x.p x.out.now x.two _ _ s.requires.room.0 s.requires.room.1 in
-    (omega arith, omega arith, s.requires.sound.5, packs-same _ _ _ _ _ _ _ _ _ (sym (rows_none (λ k. head_of x.z (bytes_of x.z x.l.now k)))) (sym (rows_none (λ k. filled 8 (bits_of x.z x.l.now k)))) none)
+    let x = c.args in
+    let none = packs-none x.p x.out.now x.two _ _ c.requires.room.0 c.requires.room.1 in
+    (omega arith, omega arith, c.requires.sound.5, packs-same _ _ _ _ _ _ _ _ _ (sym (rows_none (λ k. head_of x.z (bytes_of x.z x.l.now k)))) (sym (rows_none (λ k. filled 8 (bits_of x.z x.l.now k)))) none)
 
 -- record k lies within the list
 within : (c : In-loop-k) → c.loop-k.a + c.args.z.rows * c.args.z.cols ≤ length c.args.l.now

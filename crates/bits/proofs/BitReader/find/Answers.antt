@@ -9,7 +9,7 @@ unfolding find_of
 returns-then-z-limit c =
     let limit = c.least-limit.ensures.value in
     record {
-      result_value = simp (← limit, ← c.zeros_ahead-z.ensures.0, lt-ltb _ _ c.if-z-limit.true, c.skip.ensures.result_value);
+      value = simp (← limit, ← c.zeros_ahead-z.ensures.0, lt-ltb _ _ c.if-z-limit.true, c.skip.ensures.value);
       ready_below = search rules;
     }
 
@@ -18,7 +18,7 @@ unfolding find_of
 returns-then-k-left c =
     let limit = c.least-limit.ensures.value in
     record {
-      result_value = simp (← limit, ← c.zeros_ahead-z.ensures.0, le-ltb _ _ c.if-z-limit.false, le-leb _ _ c.if-k-left.true, c.skip-then-k-left.ensures.result_value);
+      value = simp (← limit, ← c.zeros_ahead-z.ensures.0, le-ltb _ _ c.if-z-limit.false, le-leb _ _ c.if-k-left.true, c.skip-then-k-left.ensures.value);
       ready_below = search rules;
     }
 
@@ -27,6 +27,6 @@ unfolding find_of
 returns c =
     let limit = c.least-limit.ensures.value in
     record {
-      result_value = simp (← limit, ← c.zeros_ahead-z.ensures.0, le-ltb _ _ c.if-z-limit.false, lt-leb _ _ c.if-k-left.false, c.spend.ensures.result_value);
+      value = simp (← limit, ← c.zeros_ahead-z.ensures.0, le-ltb _ _ c.if-z-limit.false, lt-leb _ _ c.if-k-left.false, c.spend.ensures.value);
       ready_below = search rules;
     }

@@ -5,9 +5,8 @@ use Rattle.bits.proofs.BitReader.new.Goals as goal
 
 pub returns : goal.returns
 returns c =
-    let a = c in
-    let x = a.args in
+    let x = c.args in
     record {
-      result_value = c.at.ensures.result_value ∙ ap (λ (n : ℕ). record { place = x.offset * 8; remaining = n; status = 0 }) a.allowance.ensures;
+      value = c.at.ensures.value ∙ ap (λ (n : ℕ). record { place = x.offset * 8; remaining = n; status = 0 }) c.allowance.ensures;
       ready = c.at.ensures.ready;
     }

@@ -52,19 +52,19 @@ returns c =
     let v = t.top.ensures ∙ prefix p a.self.place a.self.cache k s.requires.ready.bits (omega arith) in
     let e = ap (λ (x : ℕ). x * 2 ^ (a.n - k) % 2 ^ 64) v ∙ shl_exact k (a.n - k) 64 bits (omega arith) in
     let whole : k + (a.n - k) ≡ a.n = omega (arith, few) in
-    let after = c.at.ensures.result_value ∙ ap (λ (x : ℕ). record { place = a.self.place + k; remaining = a.self.remaining - k; status = x }) t.status_past-status.ensures in record {
-      result_value = (λ j. record { value = e j; reader = after j }) ∙ sym (parted p _ a.n k l.least-k.ensures.value);
+    let after = c.at.ensures.value ∙ ap (λ (x : ℕ). record { place = a.self.place + k; remaining = a.self.remaining - k; status = x }) t.status_past-status.ensures in record {
+      value = (λ j. record { value = e j; reader = after j }) ∙ sym (parted p _ a.n k l.least-k.ensures.value);
       ready_below = record { ready = c.at.ensures.ready; bound = rw e (rw whole at (shl_lt k (a.n - k) bits)) };
     }
 
 pub top-requires : goal.top-requires
-top-requires c = omega (arith, c.least-k.ensures.upper_bound.0, c.requires.n_bound)
+top-requires c = omega (arith, c.least-k.ensures.upper_bound.0, c.requires.few_bits)
 
 pub overflow_sub-result : goal.overflow_sub-result
 overflow_sub-result c = omega (arith, c.least-k.ensures.upper_bound.0)
 
 pub overflow_shl-result : goal.overflow_shl-result
-overflow_shl-result c = omega (arith, c.requires.n_bound)
+overflow_shl-result c = omega (arith, c.requires.few_bits)
 
 pub overflow_add-self : goal.overflow_add-self
 overflow_add-self c = omega (arith, c.least-k.ensures.upper_bound.1, c.requires.ready.room)
@@ -73,4 +73,4 @@ pub overflow_sub-self : goal.overflow_sub-self
 overflow_sub-self c = omega (arith, c.least-k.ensures.upper_bound.1)
 
 pub at-requires : goal.at-requires
-at-requires c = let l = c in (l.requires.ready.size, omega (arith, l.least-k.ensures.upper_bound.1, l.requires.ready.room))
+at-requires c = (c.requires.ready.size, omega (arith, c.least-k.ensures.upper_bound.1, c.requires.ready.room))

@@ -20,9 +20,9 @@ returns-then-n-self c =
     let b = c.top-then-n-self.ensures ∙ middle s p w g.n g.n holds (omega arith) in
     let c' = c.top-then-n-self-2.ensures ∙ middle s p w (2 * g.n) g.n holds (omega arith) in
     let d = c.top-then-n-self-3.ensures ∙ middle s p w (3 * g.n) g.n holds (omega arith) in record {
-      result_value = simp (a, b, c', d, c.skip.ensures.result_value) (sym (four-within s (as_reader g.self) g.n c.if-n-self.true));
+      value = simp (a, b, c', d, c.skip.ensures.value) (sym (four-within s (as_reader g.self) g.n c.if-n-self.true));
       ready_below_four = record {
-        ready = c.skip.ensures.ready_2;
+        ready = c.skip.ensures.still_ready;
         a = rw a (bits-lt s p g.n);
         b = rw b (bits-lt s (p + g.n) g.n);
         c = rw c' (bits-lt s (p + 2 * g.n) g.n);
@@ -37,6 +37,6 @@ returns c =
     let b = c.read-b in
     let c' = c.read-c in
     let d = c.read-d in record {
-      result_value = simp (← a.ensures.result_value, ← b.ensures.result_value, ← c'.ensures.result_value, ← d.ensures.result_value);
+      value = simp (← a.ensures.value, ← b.ensures.value, ← c'.ensures.value, ← d.ensures.value);
       ready_below_four = record { ready = d.ensures.ready_below.ready; a = a.ensures.ready_below.bound; b = b.ensures.ready_below.bound; c = c'.ensures.ready_below.bound; d = d.ensures.ready_below.bound };
     }

@@ -7,27 +7,24 @@ use Rattle.bits.proofs.BitReader.width_first.Goals as goal
 
 pub returns-then-a-eq0 : goal.returns-then-a-eq0
 returns-then-a-eq0 c =
-    let x = c in
-    let g = x.args in
+    let g = c.args in
     record {
-      result_value = update-zero g.packet.now (as_reader g.self) g.width (as_taken x.read-a.result) x.read-a.ensures.result_value c.if-a-eq0.true;
-      ready_2 = search rules;
+      value = update-zero g.packet.now (as_reader g.self) g.width (as_taken c.read-a.result) c.read-a.ensures.value c.if-a-eq0.true;
+      still_ready = search rules;
     }
 
 pub returns-then-first-ne0 : goal.returns-then-first-ne0
 returns-then-first-ne0 c =
-    let x = c in
-    let g = x.args in
+    let g = c.args in
     record {
-      result_value = update-stopped g.packet.now (as_reader g.self) g.width (as_taken x.read-a.result) x.read-a.ensures.result_value c.if-a-eq0.false c.if-first-ne0.true;
-      ready_2 = search rules;
+      value = update-stopped g.packet.now (as_reader g.self) g.width (as_taken c.read-a.result) c.read-a.ensures.value c.if-a-eq0.false c.if-first-ne0.true;
+      still_ready = search rules;
     }
 
 pub returns : goal.returns
 returns c =
-    let x = c in
-    let g = x.args in
+    let g = c.args in
     record {
-      result_value = c.width_second.ensures.result_value ∙ update-second g.packet.now (as_reader g.self) g.width (as_taken x.read-a.result) x.read-a.ensures.result_value c.if-a-eq0.false c.if-first-ne0.false;
-      ready_2 = c.width_second.ensures.ready_2;
+      value = c.width_second.ensures.value ∙ update-second g.packet.now (as_reader g.self) g.width (as_taken c.read-a.result) c.read-a.ensures.value c.if-a-eq0.false c.if-first-ne0.false;
+      still_ready = c.width_second.ensures.still_ready;
     }

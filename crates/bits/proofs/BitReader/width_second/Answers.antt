@@ -10,12 +10,11 @@ use Rattle.bits.proofs.BitReader.width_second.Goals as goal
 
 pub returns-then-second-ne0 : goal.returns-then-second-ne0
 returns-then-second-ne0 c =
-    let x = c in
-    let g = x.args in
-    let b = as_taken x.read-b.result in
+    let g = c.args in
+    let b = as_taken c.read-b.result in
     record {
-      result_value = second-stopped g.packet.now g.width b c.if-second-ne0.true ∙ ap (update_second g.packet.now g.width) x.read-b.ensures.result_value;
-      ready_2 = search rules;
+      value = second-stopped g.packet.now g.width b c.if-second-ne0.true ∙ ap (update_second g.packet.now g.width) c.read-b.ensures.value;
+      still_ready = search rules;
     }
 
 pub returns-then-b-eq0 : goal.returns-then-b-eq0
@@ -24,9 +23,9 @@ returns-then-b-eq0 c =
     let x = u in
     let g = x.args in
     let b = as_taken x.read-b.result in record {
-      result_value = ap (grown g.width) u.unary-u.ensures.result_value ∙ second-grown g.packet.now g.width b u.if-second-ne0.false u.if-b-eq0.true
-          ∙ ap (update_second g.packet.now g.width) x.read-b.ensures.result_value;
-      ready_2 = search rules;
+      value = ap (grown g.width) u.unary-u.ensures.value ∙ second-grown g.packet.now g.width b u.if-second-ne0.false u.if-b-eq0.true
+          ∙ ap (update_second g.packet.now g.width) x.read-b.ensures.value;
+      still_ready = search rules;
     }
 
 pub returns : goal.returns
@@ -35,11 +34,11 @@ returns c =
     let x = f in
     let g = x.args in
     let b = as_taken x.read-b.result in
-    let same = f.find-f.ensures.result_value ∙ ap (find_of g.packet.now (as_reader x.read-b.result.reader)) f.less.ensures in record {
-      result_value = simp c.less-2.ensures (ap (shrunk g.width) same)
+    let same = f.find-f.ensures.value ∙ ap (find_of g.packet.now (as_reader x.read-b.result.reader)) f.less.ensures in record {
+      value = simp c.less-2.ensures (ap (shrunk g.width) same)
           ∙ second-shrunk g.packet.now g.width b f.if-second-ne0.false f.if-b-eq0.false
-          ∙ ap (update_second g.packet.now g.width) x.read-b.ensures.result_value;
-      ready_2 = search rules;
+          ∙ ap (update_second g.packet.now g.width) x.read-b.ensures.value;
+      still_ready = search rules;
     }
 
 pub overflow_add-result : goal.overflow_add-result

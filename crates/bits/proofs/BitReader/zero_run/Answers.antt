@@ -13,35 +13,33 @@ use Rattle.bits.proofs.BitReader.zero_run.Goals as goal
 pub returns-then-groups-le1 : goal.returns-then-groups-le1
 returns-then-groups-le1 c =
     record {
-      result_value = run-one c.args.packet.now (as_reader c.args.self) c.args.groups c.if-groups-le1.true;
+      value = run-one c.args.packet.now (as_reader c.args.self) c.args.groups c.if-groups-le1.true;
       ready_below = search rules;
-      value_nonzero = λ h. h;
+      some = λ h. h;
     }
 
 pub returns-then-most-z : goal.returns-then-most-z
 returns-then-most-z c =
-    let x = c in
-    let a = x.args in
+    let a = c.args in
     let s = a.packet.now in
-    let most = x.bit_length-most.ensures.0 in
-    let found = x.find-found.ensures.result_value ∙ ap (find_of s (as_reader a.self)) most in
+    let most = c.bit_length-most.ensures.0 in
+    let found = c.find-found.ensures.value ∙ ap (find_of s (as_reader a.self)) most in
     record {
-      result_value = run_none s (as_reader a.self) a.groups x.if-groups-le1.false (as_taken x.find-found.result) found (omega (arith, most));
+      value = run_none s (as_reader a.self) a.groups c.if-groups-le1.false (as_taken c.find-found.result) found (omega (arith, most));
       ready_below = search rules;
-      value_nonzero = λ h. h;
+      some = λ h. h;
     }
 
 pub returns-then-after-ne0 : goal.returns-then-after-ne0
 returns-then-after-ne0 c =
-    let x = c in
-    let a = x.args in
+    let a = c.args in
     let s = a.packet.now in
-    let most = x.bit_length-most.ensures.0 in
-    let found = x.find-found.ensures.result_value ∙ ap (find_of s (as_reader a.self)) most in
+    let most = c.bit_length-most.ensures.0 in
+    let found = c.find-found.ensures.value ∙ ap (find_of s (as_reader a.self)) most in
     record {
-      result_value = run-stopped s (as_reader a.self) a.groups x.if-groups-le1.false (as_taken x.find-found.result) found (omega (arith, most)) c.if-after-ne0.true;
+      value = run-stopped s (as_reader a.self) a.groups c.if-groups-le1.false (as_taken c.find-found.result) found (omega (arith, most)) c.if-after-ne0.true;
       ready_below = search rules;
-      value_nonzero = λ h. h;
+      some = λ h. h;
     }
 
 -- the power is below the groups that are left
@@ -53,8 +51,7 @@ below c =
 
 short : (c : Else-after-ne0) → c.find-found.result.value < 32
 short c =
-    let x = c in
-    exponent_lt x.find-found.result.value 32 (omega (arith, below c, x.requires.groups_bound))
+    exponent_lt c.find-found.result.value 32 (omega (arith, below c, c.requires.groups_bound))
 
 pub overflow_add-power : goal.overflow_add-power
 overflow_add-power c =
@@ -70,17 +67,17 @@ returns c =
     let a = x.args in
     let s = a.packet.now in
     let most = x.bit_length-most.ensures.0 in
-    let found = x.find-found.ensures.result_value ∙ ap (find_of s (as_reader a.self)) most in
+    let found = x.find-found.ensures.value ∙ ap (find_of s (as_reader a.self)) most in
     let z = x.find-found.result.value in
     let power = c.power.ensures in
     let value = c.least.ensures.value ∙ ap (λ (b : ℕ). min (b + e.read-extra.result.value) a.groups) power in record {
-      result_value = rw value (ap (at_most a.groups z) e.read-extra.ensures.result_value ∙ run-part s (as_reader a.self) a.groups x.if-groups-le1.false (as_taken x.find-found.result) found (omega (arith, most, n.if-most-z.false)) n.if-after-ne0.false (below n));
+      value = rw value (ap (at_most a.groups z) e.read-extra.ensures.value ∙ run-part s (as_reader a.self) a.groups x.if-groups-le1.false (as_taken x.find-found.result) found (omega (arith, most, n.if-most-z.false)) n.if-after-ne0.false (below n));
       ready_below = record { ready = e.read-extra.ensures.ready_below.ready; bound = omega (arith, c.least.ensures.upper_bound) };
-      value_nonzero = λ h. omega (arith, c.least.ensures.value, power, pow_pos z);
+      some = λ h. omega (arith, c.least.ensures.value, power, pow_pos z);
     }
 
 pub read-extra-requires : goal.read-extra-requires
-read-extra-requires c = record { ready = c.find-found.ensures.ready_below.ready; n_bound = omega (arith, short c) }
+read-extra-requires c = record { ready = c.find-found.ensures.ready_below.ready; few_bits = omega (arith, short c) }
 
 pub power-requires : goal.power-requires
 power-requires c = omega (arith, short (goal.at.power-requires c).Else-after-ne0)

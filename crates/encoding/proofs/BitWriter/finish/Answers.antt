@@ -9,9 +9,8 @@ use Rattle.encoding.proofs.BitWriter.finish.Goals as goal
 
 pub put-requires : goal.put-requires
 put-requires c =
-    let s = c in
-    let p = s.requires in
-    (omega arith, pow_pos ((8 - s.args.self.held) % 8), record { few = p.few; small = p.small; room = omega (arith, p.few, p.room) })
+    let p = c.requires in
+    (omega arith, pow_pos ((8 - c.args.self.held) % 8), record { few = p.few; small = p.small; room = omega (arith, p.few, p.room) })
 
 pub returns : goal.returns
 returns c =
@@ -21,5 +20,5 @@ returns c =
     let a = appends-same _ _ _ _ _ _ (number-zeros n) p.put.ensures in
     record {
       appends = a;
-      held_value = omega (arith, a.on, a.few, s.requires.few, length-replicate {A = ℕ} n 0);
+      none_held = omega (arith, a.on, a.few, s.requires.few, length-replicate {A = ℕ} n 0);
     }

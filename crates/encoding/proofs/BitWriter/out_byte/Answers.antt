@@ -16,6 +16,6 @@ pub returns : goal.returns
 returns c =
     let a = c.args in
     record {
-      place_value = (refl, omega arith, rw c.low_bits.ensures (mod-lt a.self.cache (pow_pos (a.self.held - 8))), simp length-set);
-      by_index = λ old b. wrote-out old a.out.now b a.self _ _ (omega arith) (search rules) c.high_byte.ensures c.low_bits.ensures;
+      place = (refl, omega arith, rw c.low_bits.ensures (mod-lt a.self.cache (pow_pos (a.self.held - 8))), simp length-set);
+      wrote = λ old b. wrote-out old a.out.now b a.self _ _ (omega arith) (search rules) c.high_byte.ensures c.low_bits.ensures;
     }

@@ -23,13 +23,13 @@ out_byte-w-requires c =
     (omega arith, omega (arith, l.invariant.0), l.invariant.0.2, omega (arith, l.invariant.0))
 
 pub loop-w-smaller : goal.loop-w-smaller
-loop-w-smaller c = omega (arith, c.out_byte-w.ensures.place_value)
+loop-w-smaller c = omega (arith, c.out_byte-w.ensures.place)
 
 pub loop-w-preserved : goal.loop-w-preserved
 loop-w-preserved c =
     let o = c.out_byte-w.ensures in
     let l = c.loop-w in
-    ((omega (arith, o.place_value, l.invariant.0), omega (arith, o.place_value, l.invariant.0), o.place_value.2, omega (arith, o.place_value, l.invariant.0), omega (arith, o.place_value, l.invariant.0)), λ old b h. o.by_index old b (l.invariant.1 old b h))
+    ((omega (arith, o.place, l.invariant.0), omega (arith, o.place, l.invariant.0), o.place.2, omega (arith, o.place, l.invariant.0), omega (arith, o.place, l.invariant.0)), λ old b h. o.wrote old b (l.invariant.1 old b h))
 
 pub shape_of-out : goal.shape_of-out
 shape_of-out c = c.loop-w.invariant.0.0

@@ -49,9 +49,8 @@ returns-then-bad-ne0 c =
 pub returns-then-group_size-entries : goal.returns-then-group_size-entries
 unfolding group_refusal
 returns-then-group_size-entries c =
-    let b = c in
-    let a = b.args in
-    let long = lengths_read a.stream.now a.group _ _ _ b.block_at-at.ensures.0 c.entries.ensures.0 in
+    let a = c.args in
+    let long = lengths_read a.stream.now a.group _ _ _ c.block_at-at.ensures.0 c.entries.ensures.0 in
     simp (
       ← c.block_at-at.ensures.0,
       le-ltb _ _ c.if-stream-at.false,
@@ -69,9 +68,8 @@ returns-then-group_size-entries c =
 pub returns : goal.returns
 unfolding group_refusal
 returns c =
-    let b = c in
-    let a = b.args in
-    let long = lengths_read a.stream.now a.group _ _ _ b.block_at-at.ensures.0 c.entries.ensures.0 in
+    let a = c.args in
+    let long = lengths_read a.stream.now a.group _ _ _ c.block_at-at.ensures.0 c.entries.ensures.0 in
     simp (
       ← c.block_at-at.ensures.0,
       le-ltb _ _ c.if-stream-at.false,

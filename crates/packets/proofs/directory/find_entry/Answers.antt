@@ -11,7 +11,7 @@ returns-then-count-index c =
     let at = c.block_at-at in
     record {
       value = simp (← at.ensures.0, ← count.ensures.0, le-ltb _ _ c.if-count-index.true);
-      result_value = simp (← at.ensures.0, ← count.ensures.0, le-ltb _ _ c.if-count-index.true);
+      number = simp (← at.ensures.0, ← count.ensures.0, le-ltb _ _ c.if-count-index.true);
     }
 
 pub returns : goal.returns
@@ -21,5 +21,5 @@ returns c =
     let at = c.block_at-at in
     record {
       value = simp (← at.ensures.0, ← count.ensures.0, lt-ltb _ _ c.if-count-index.false);
-      result_value = simp (← at.ensures.0, ← count.ensures.0, lt-ltb _ _ c.if-count-index.false);
+      number = simp (← at.ensures.0, ← count.ensures.0, lt-ltb _ _ c.if-count-index.false);
     }

@@ -41,10 +41,9 @@ loop-i-preserved c =
 
 pub returns : goal.returns
 returns c =
-    let l = c in
-    let count = l.blocks-count in
-    let same : l.loop-i.i ≡ count.result = omega arith in
-    rw (← count.ensures.0, sym same) (sym l.loop-i.invariant.0)
+    let count = c.blocks-count in
+    let same : c.loop-i.i ≡ count.result = omega arith in
+    rw (← count.ensures.0, sym same) (sym c.loop-i.invariant.0)
 
 pub blocks-count-requires : goal.blocks-count-requires
 blocks-count-requires c = omega arith

@@ -14,8 +14,7 @@ returns-then-packet-lt16 c = simp (lt-ltb _ _ c.if-packet-lt16.true)
 pub returns-then-padding-ne0 : goal.returns-then-padding-ne0
 unfolding packet_refusal
 returns-then-padding-ne0 c =
-    let a = c in
-    simp (le-ltb _ _ a.if-packet-lt16.false, ← a.padding.ensures.0, ne_eqb _ _ c.if-padding-ne0.true)
+    simp (le-ltb _ _ c.if-packet-lt16.false, ← c.padding.ensures.0, ne_eqb _ _ c.if-padding-ne0.true)
 
 pub returns-then-wrong_tag : goal.returns-then-wrong_tag
 unfolding packet_refusal

@@ -6,10 +6,9 @@ use Rattle.passes.proofs.Band.row.Goals as goal
 
 pub row_at-requires : goal.row_at-requires
 row_at-requires c =
-    let h = c in
-    let s = h.args in
+    let s = c.args in
     let d = c.run-run.ensures in
-    (rw (c.wrapped-r.ensures, d.0, d.1, ← band-is s.self s.c s.y) h.requires.0, h.requires.3.rows, h.requires.2)
+    (rw (c.wrapped-r.ensures, d.0, d.1, ← band-is s.self s.c s.y) c.requires.0, c.requires.3.rows, c.requires.2)
 
 pub returns : goal.returns
 returns c =

@@ -3,5 +3,4 @@ use Rattle.records.proofs.Counts.one.Goals as goal
 
 pub returns : goal.returns
 returns c =
-    let a = c in
-    λ j. record { broken = a.goes_by.ensures.0 j; spent = c.goes_by-2.ensures.0 j; bits = a.args.bits }
+    λ j. record { broken = c.goes_by.ensures.0 j; spent = c.goes_by-2.ensures.0 j; bits = c.args.bits }
