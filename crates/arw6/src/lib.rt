@@ -1,19 +1,24 @@
-// The library for C: include/arw6.h declares these functions.
+// The library for C: include/arw6.h declares these functions and their answers.
 #![tactic(auto)]
 
 ghost use Rattle.std.specs.Prelude.{◌≡◌, length};
 ghost use Rattle.format.specs.Strip.{tiles_of};
 ghost use Rattle.format.specs.Tile.{lengths_of, slice};
 ghost use Rattle.strip.specs.Answers.{tile_field};
-ghost use Rattle.packets.specs.Answers.{code_lengths};
 ghost use Rattle.tile.specs.Decode.{TileOutcome};
 ghost use Rattle.inspection.specs.Inspect.{InspectOutcome};
 ghost use Rattle.writer.specs.Write.{WriteOutcome};
+ghost use Rattle.arw6.specs.Answers.{lengths_told, tile_told, record_told, written_told};
 
-use inspection::{Inspected, inspect_record};
-use packets::{Lengths, lengths_of};
-use tile::{Decoded, decode_stream};
-use writer::{Written, write_stream};
+mod decoded;
+mod inspected;
+mod lengths;
+mod written;
+
+use decoded::Decoded;
+use inspected::Inspected;
+use lengths::Lengths;
+use written::Written;
 
 // How many tiles a strip has in a frame.
 #[unsafe(no_mangle)]
@@ -40,9 +45,9 @@ pub extern "C" fn arw6_tile_field(
 // What to lend for a tile's stream: a refusal, or the coded size, rows and lengths.
 #[unsafe(no_mangle)]
 pub extern "C" fn arw6_lengths(stream: &[u8]) -> Lengths
-    ensures { result ≡ code_lengths (lengths_of stream.now) }
+    ensures { lengths_told result ≡ lengths_of stream.now }
 {
-    lengths_of(stream)
+    Lengths::from(packets::lengths_of(stream))
 }
 
 // One tile: a refusal, with no slice changed, or the coded size, rows and counts with the three planes.
@@ -54,9 +59,9 @@ pub extern "C" fn arw6_decode_stream(
     blue: &mut [i32],
     work: &mut [i32],
 ) -> Decoded
-    ensures { TileOutcome stream.now green.old red.old blue.old work.old result green.new red.new blue.new work.new }
+    ensures { TileOutcome stream.now green.old red.old blue.old work.old (tile_told result) green.new red.new blue.new work.new }
 {
-    decode_stream(stream, green, red, blue, work)
+    Decoded::from(tile::decode_stream(stream, green, red, blue, work))
 }
 
 // One record of a tile's stream, of a packet from 0 to 12: a refusal, with no number of the band changed, or what is known of the record, with
@@ -68,9 +73,9 @@ pub extern "C" fn arw6_record(
     record: usize,
     band: &mut [i32],
 ) -> Inspected
-    ensures { InspectOutcome stream.now packet «record» band.old result band.new }
+    ensures { InspectOutcome stream.now packet «record» band.old (record_told result) band.new }
 {
-    inspect_record(stream, packet, record, band)
+    Inspected::from(inspection::inspect_record(stream, packet, record, band))
 }
 
 // One tile's stream from planes of a coded size: a refusal, or the stream's length with the stream.
@@ -84,7 +89,7 @@ pub extern "C" fn arw6_write_stream(
     work: &mut [i32],
     stream: &mut [u8],
 ) -> Written
-    ensures { WriteOutcome width height (slice green.now red.now blue.now) work.old stream.old result work.new stream.new }
+    ensures { WriteOutcome width height (slice green.now red.now blue.now) work.old stream.old (written_told result) work.new stream.new }
 {
-    write_stream(green, red, blue, width, height, work, stream)
+    Written::from(writer::write_stream(green, red, blue, width, height, work, stream))
 }

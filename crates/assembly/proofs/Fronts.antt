@@ -1,21 +1,18 @@
 -- Laws of the header and the directory: lengths of their parts, and numbers that fit. Assumes nothing.
-use mathlib.Core.Path.{◌≡◌, refl, ap, ◌∙◌}
-use mathlib.Core.List.{List, [], ◌++◌, append_assoc}
-use Prim.Native.Nat.{ℕ, zero, suc, ◌+◌, ◌*◌, ◌^◌, ◌≤◌, ◌<◌}
-use native.Mathlib.Omega.{arith}
-use lib.ListN.{length, get_or, length-append, length-replicate}
-use lib.Dec.{ltb}
-use borrow.Author.Tests.{ltb-true}
+use Rattle.std.proofs.Common.{◌≡◌, refl, ap, ◌∙◌, List, [], ◌++◌, append_assoc, ℕ, zero, suc, ◌+◌, ◌*◌, ◌^◌, ◌≤◌, ◌<◌, arith, length, get_or, length-append, ltb, ltb-true, ltb-false}
+use Rattle.std.proofs.Math.ListN.{length-replicate}
 use Rattle.wrap32.proofs.Laws.{of-cond}
 use Rattle.lists.specs.Lists.{rows}
 use Rattle.lists.proofs.Rows.{length-rows}
+use Rattle.format.specs.Refusals.{on, each}
 use Rattle.format.specs.Sizes.{numbered}
 use Rattle.format.specs.Writing.{number_bits, zero_bits, entries, packed}
+use Rattle.format.proofs.TurnLaws.{not_on, each-zero}
 use Rattle.encoding.proofs.Widths.{length-number}
-use Rattle.encoding.specs.Wrote.{fresh, Room, Appends}
+use Rattle.encoding.specs.Wrote.{Fresh, Appends}
 use Rattle.encoding.specs.declared.BitWriter.{BitWriter}
-use Rattle.encoding.proofs.Pushed.{appends-both, room_after, room-fresh, wrote_none, number-join, number-zeros}
-use Rattle.encoding.proofs.Finished.{wrote-all}
+use Rattle.encoding.proofs.Pushed.{number-join, number-zeros}
+use Rattle.encoding.proofs.Finished.{wrote-all, fresh-wrote}
 use Rattle.encoding.proofs.Records.{sum-some}
 use Rattle.assembly.specs.Front.{Narrow, units_at, group_of, entry_of, block_of, sizes_of, blocks_of, named_of, front_of}
 
@@ -77,39 +74,15 @@ length_front w H u =
     let b = zero_bits 136 ++ blocks_of u 5 in
     omega (arith, length-append (named_of w H) (sizes_of u 5 ++ b), length-append (sizes_of u 5) b, length-append (zero_bits 136) (blocks_of u 5), length-named w H, length-sizes u 5, length-replicate {A = ℕ} 136 0, length-blocks u 5)
 
--- ---- one part after the other, in 128 bytes
-module _ (w H : ℕ) (u s : List ℕ) (long : length s ≡ 128) where
-  module _ {t1 : List ℕ} {r1 : BitWriter} (a : Appends s t1 fresh r1 (named_of w H)) where
-    pub sizes-room : Room t1 r1 120
-    sizes-room = room_after s t1 fresh r1 (named_of w H) 1024 120 (room-fresh s 1024 (omega arith)) a (omega (arith, length-named w H))
+-- all 128 bytes
+pub front-packed : (w H : ℕ) (u s t : List ℕ) (b r : BitWriter) → length s ≡ 128 → Fresh b s → Appends b r (front_of w H u) → t ≡ r.out.now → ((i : ℕ) → get_or t i 0 < 256) → t ≡ packed (front_of w H u)
+front-packed w H u s t b r long f a e bytes =
+    let n = length_front w H u in
+    let m : length r.out.now ≡ 128 = a.long ∙ ap length f.slice ∙ long in
+    e
+    ∙ wrote-all s r.out.now r.place r.cache r.held _ (rw e at bytes) (a.wrote s [] (fresh-wrote b s f)) (omega (arith, a.on, a.few, n, f.none_out, f.none_held)) (omega (arith, a.on, a.few, n, m, f.none_out, f.none_held))
 
-    module _ {t2 : List ℕ} {r2 : BitWriter} (b : Appends t1 t2 r1 r2 (sizes_of u 5)) where
-      ab : Appends s t2 fresh r2 (named_of w H ++ sizes_of u 5)
-      ab = appends-both _ _ _ _ _ _ _ _ _ a b refl
-
-      pub zeros-room : Room t2 r2 136
-      zeros-room =
-          room_after s t2 fresh r2 _ 1024 136 (room-fresh s 1024 (omega arith)) ab
-          (omega (arith, length-append (named_of w H) (sizes_of u 5), length-named w H, length-sizes u 5))
-
-      module _ {t3 : List ℕ} {r3 : BitWriter} (c : Appends t2 t3 r2 r3 (zero_bits 136)) where
-        abc : Appends s t3 fresh r3 (named_of w H ++ (sizes_of u 5 ++ zero_bits 136))
-        abc = appends-both _ _ _ _ _ _ _ _ _ a (appends-both _ _ _ _ _ _ _ _ _ b c refl) refl
-
-        pub blocks-room : Room t3 r3 640
-        blocks-room =
-            room_after s t3 fresh r3 _ 1024 640 (room-fresh s 1024 (omega arith)) abc
-            (omega (arith, length-append (named_of w H) (sizes_of u 5 ++ zero_bits 136), length-append (sizes_of u 5) (zero_bits 136), length-named w H, length-sizes u 5, length-replicate {A = ℕ} 136 0))
-
-        module _ {t4 : List ℕ} {r4 : BitWriter} (d : Appends t3 t4 r3 r4 (blocks_of u 5)) where
-          all : Appends s t4 fresh r4 (front_of w H u)
-          all = appends-both _ _ _ _ _ _ _ _ _ a (appends-both _ _ _ _ _ _ _ _ _ b (appends-both _ _ _ _ _ _ _ _ _ c d refl) refl) refl
-
-          at-end : 8 * r4.place + r4.held ≡ 1024
-          at-end =
-              let n = length_front w H u in
-              omega (arith, all.on, n)
-
-          pub front-packed : ((i : ℕ) → get_or t4 i 0 < 256) → t4 ≡ packed (front_of w H u)
-          front-packed bytes =
-              wrote-all s t4 r4 _ bytes (all.wrote s [] (wrote_none s)) (omega (arith, at-end, all.few)) (omega (arith, at-end, all.few, all.long))
+-- no group is too long
+pub narrow-units : (u : List ℕ) → each (λ g. on (ltb 268435440 (16 * group_of u g)) 26) 5 ≡ 0 → Narrow u
+narrow-units u h =
+    record { group = λ g l. omega (arith, ltb-false 268435440 (16 * group_of u g) (not_on _ 25 (each-zero (λ g. on (ltb 268435440 (16 * group_of u g)) 26) g 5 h l))) }

@@ -1,12 +1,5 @@
 -- A packet whose numbers stand in a list is the one of the coefficients. Assumes nothing.
-use mathlib.Core.Path.{◌≡◌, ap, ◌∙◌}
-use mathlib.Core.List.{List, ◌++◌}
-use Prim.Native.Nat.{ℕ, suc, ◌+◌, ◌*◌, ◌/◌, ◌%◌, ◌≤◌, ◌<◌}
-use native.Mathlib.Nat.{mul-le-mul_right, mul_assoc}
-use native.Mathlib.Omega.{arith}
-use lib.IntN.{ℤ, pos}
-use lib.ListN.{length}
-use lib.Dec.{ltb}
+use Rattle.std.proofs.Common.{◌≡◌, ap, ◌∙◌, List, ◌++◌, ℕ, suc, ◌+◌, ◌*◌, ◌/◌, ◌%◌, ◌≤◌, ◌<◌, mul-le-mul_right, mul_assoc, arith, ℤ, pos, length, ltb}
 use Rattle.lists.specs.Lists.{rows}
 use Rattle.lists.proofs.Tab.{get_d_part, length_part, length-tab}
 use Rattle.lists.proofs.Rows.{rows_same, length-rows}

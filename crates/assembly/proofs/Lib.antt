@@ -6,3 +6,4 @@ pub mod Places
 pub mod Fronts
 pub mod Streams
 pub mod Mild
+pub mod Checks

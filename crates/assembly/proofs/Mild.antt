@@ -1,13 +1,6 @@
 -- Numbers that may be written: all coefficients that stand in the work slice are small. Assumes nothing.
-use mathlib.Core.Path.{◌≡◌, sym, ap, ◌∙◌}
-use mathlib.Core.List.{List}
-use mathlib.Core.Bool.{true}
-use mathlib.Core.Logic.{⊎_elim}
-use Prim.Native.Nat.{ℕ, ◌+◌, ◌*◌, ◌/◌, ◌%◌, ◌^◌, ◌≤◌, ◌<◌}
-use native.Mathlib.Nat.{mod-lt, div-add-mod', div-lt_iff_lt-mul}
-use native.Mathlib.Omega.{arith}
-use lib.IntN.{ℤ, pos, nat_abs}
-use lib.ListN.{length, get_or-eq_default}
+use Rattle.std.proofs.Common.{◌≡◌, sym, ap, ◌∙◌, List, true, ⊎_elim, ℕ, ◌+◌, ◌*◌, ◌/◌, ◌%◌, ◌^◌, ◌≤◌, ◌<◌, mod-lt, div-add-mod', div-lt_iff_lt-mul, arith, ℤ, pos, nat_abs, length}
+use Rattle.std.proofs.Math.ListN.{get_or-eq_default}
 use Rattle.format.specs.Sizes.{Colour, Group, present, columns}
 use Rattle.format.specs.Lifting.{Plane}
 use Rattle.format.specs.Coefficients.{Coefs}

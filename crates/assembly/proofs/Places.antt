@@ -1,12 +1,5 @@
 -- The packets of a tile: that it has them, and that they lie in the work slice. Assumes nothing.
-use mathlib.Core.Path.{◌≡◌, sym, ap, ◌∙◌}
-use mathlib.Core.Bool.{true}
-use Prim.Native.Nat.{ℕ, ◌+◌, ◌-◌, ◌*◌, ◌/◌, ◌%◌, ◌^◌, ◌≤◌, ◌<◌}
-use native.Mathlib.Nat.{mul-le-mul_right, mul_assoc}
-use native.Mathlib.Omega.{arith}
-use mathlib.Core.List.{List}
-use lib.IntN.{ℤ}
-use lib.ListN.{length, take, drop}
+use Rattle.std.proofs.Common.{◌≡◌, sym, ap, ◌∙◌, true, ℕ, ◌+◌, ◌-◌, ◌*◌, ◌/◌, ◌%◌, ◌^◌, ◌≤◌, ◌<◌, mul_assoc, arith, List, ℤ, length, take, drop}
 use Rattle.lists.proofs.Tab.{length_part}
 use Rattle.format.specs.Sizes.{Colour, green, red, blue, l1, l2, l3, Group, base, detail, final, present, multiplier, components, columns, work_length}
 use Rattle.format.specs.Numbers.{packet_rows}
@@ -14,7 +7,6 @@ use Rattle.format.specs.Writing.{records}
 use Rattle.format.proofs.Numbered.{present-of}
 use Rattle.encoding.specs.Wrote.{Small, line}
 use Rattle.assembly.specs.Packet.{Sound}
-use Rattle.assembly.specs.declared.packet.Shape.{Shape}
 use Rattle.assembly.specs.declared.place.Located.{Located}
 use Rattle.assembly.specs.Tile.{unit_of, packet_at, shape_of, Tile, group_in, colour_in, shape_in, numbers_in}
 
@@ -54,22 +46,12 @@ module _ (w k : ℕ) (even : w % 16 ≡ 0) where
 pub records-few : (H : ℕ) → H ≤ 32767 → records H ≤ 2049
 records-few H h = omega arith
 
-pub unit-few : (w H : ℕ) → w < 2 ^ 16 → H ≤ 32767 → unit_of w H < 2 ^ 24
-unit-few w H a b = omega (arith, mul-le-mul_right (w / 16) (records-few H b))
-
 -- all of them are the numbers of the work slice
 pub work-units : (w H : ℕ) → w % 16 ≡ 0 → work_length w H ≡ 256 * unit_of w H
 work-units w H even =
     let c = w / 16 in
     let e : w ≡ 16 * c = omega arith in
     ap (λ (n : ℕ). 16 * records H * n) e ∙ omega (arith, mul_assoc 16 (records H) (16 * c), mul_assoc (records H) 16 c)
-
-pub count-few : (z : Shape) → Sound z → (z.rows * z.cols ≤ 12 * 2 ^ 15) × (z.records * (z.rows * z.cols) ≤ 2049 * (12 * 2 ^ 15))
-count-few z s =
-    let a : z.rows * z.cols ≤ 12 * z.cols = mul-le-mul_right z.cols s.low in
-    let b : z.rows * z.cols ≤ 12 * 2 ^ 15 = omega (arith, s.narrow) in
-    let c : z.records * (z.rows * z.cols) ≤ 2049 * (z.rows * z.cols) = mul-le-mul_right (z.rows * z.cols) s.few in
-    (b, omega arith)
 
 -- ---- packet p, read off the work slice by its shape and its place
 module _ (w H : ℕ) (work : List ℤ) (t : Tile w H work) (p : ℕ) (h : p < 13) (r : Located) where

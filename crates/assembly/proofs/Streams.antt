@@ -1,14 +1,6 @@
 -- What is read off a work slice that holds the coefficients v is the stream's of v. Assumes nothing.
-use mathlib.Core.Path.{◌≡◌, refl, sym, ap, ◌∙◌}
-use mathlib.Core.List.{List, ◌++◌, append_assoc}
-use mathlib.Core.Bool.{Bool, true, false, cond}
-use mathlib.Core.Logic.{⊎_elim}
-use Prim.Native.Nat.{ℕ, zero, suc, ◌+◌, ◌*◌, ◌/◌, ◌%◌, ◌^◌, ◌≤◌, ◌<◌}
-use native.Mathlib.Omega.{arith}
-use lib.IntN.{ℤ}
-use lib.ListN.{length, get_or, get_or-eq_default}
-use lib.Dec.{ltb}
-use borrow.Author.Tests.{ltb-true, ltb-false}
+use Rattle.std.proofs.Common.{◌≡◌, refl, sym, ap, ◌∙◌, List, ◌++◌, append_assoc, Bool, true, false, cond, ⊎_elim, ℕ, zero, suc, ◌+◌, ◌*◌, ◌/◌, ◌%◌, ◌^◌, ◌≤◌, ◌<◌, arith, ℤ, length, get_or, ltb, ltb-true, ltb-false}
+use Rattle.std.proofs.Math.ListN.{get_or-eq_default}
 use Rattle.lists.specs.Lists.{tab, rows}
 use Rattle.lists.proofs.Tab.{get_or-tab, length-tab, tab-same}
 use Rattle.lists.proofs.Rows.{rows_same}
@@ -22,7 +14,7 @@ use Rattle.format.proofs.TurnLaws.{sum_same, not_on, both-none, each-zero, each_
 use Rattle.encoding.proofs.Pushed.{number-zeros}
 use Rattle.encoding.proofs.Records.{sum-some}
 use Rattle.encoding.proofs.Finished.{packed-append, packed-rows}
-use Rattle.assembly.specs.Front.{Units, Narrow, units_at, group_of, entry_of, block_of, front_of}
+use Rattle.assembly.specs.Front.{Narrow, units_at, group_of, entry_of, block_of, front_of}
 use Rattle.assembly.specs.Tile.{Holds, group_in, colour_in, shape_in, numbers_in, units_in, refusal_in, packet_bits_in, Short}
 use Rattle.assembly.proofs.Held.{units-held, refusal-held, packet-held}
 use Rattle.assembly.proofs.Places.{present-in}
@@ -38,15 +30,12 @@ entry-within g k h l =
     (le-or-lt 4 g)
 
 -- 13 small numbers
-pub units_small : (f : ℕ → ℕ) → ((p : ℕ) → p < 13 → f p < 2 ^ 48) → Units (tab 13 f)
-units_small f h = record { long = length-tab 13 f; small = at }
-  where
-    at : (p : ℕ) → get_or (tab 13 f) p 0 < 2 ^ 48
-    at p =
-        ⊎_elim
-        (λ (a : 13 ≤ p). let z : get_or (tab 13 f) p 0 ≡ 0 = get_or-eq_default (tab 13 f) 0 (rw (length-tab 13 f) a) in rw z (omega arith))
-        (λ (a : p < 13). rw (get_or-tab 13 f p 0 a) (h p a))
-        (le-or-lt 13 p)
+pub units_small : (f : ℕ → ℕ) → ((p : ℕ) → p < 13 → f p < 2 ^ 48) → (p : ℕ) → get_or (tab 13 f) p 0 < 2 ^ 48
+units_small f h p =
+    ⊎_elim
+    (λ (a : 13 ≤ p). let z : get_or (tab 13 f) p 0 ≡ 0 = get_or-eq_default (tab 13 f) 0 (rw (length-tab 13 f) a) in rw z (omega arith))
+    (λ (a : p < 13). rw (get_or-tab 13 f p 0 a) (h p a))
+    (le-or-lt 13 p)
 
 -- ---- the 13 packets, group by group
 ▷-assoc : (a b c : ℕ) → ((a ▷ b) ▷ c) ≡ (a ▷ (b ▷ c))
@@ -117,6 +106,10 @@ module _ (w H : ℕ) (v : Coefs) (work : List ℤ) (h : Holds w H v work) where
     unfolding lengths_refusal
     refusal_is =
         λ i. records-refusal i ▷ each_same (λ g. on (ltb 268435440 (16 * group_of u g)) 26) (λ g. on (ltb 268435440 (16 * group_units w H v g)) 26) 5 (λ g a. ap (λ (n : ℕ). on (ltb 268435440 (16 * n)) 26) (group-is g a)) i
+
+    -- the records' first, then the groups'
+    pub refusal-by : (a b : ℕ) → a ≡ each (refusal_in w H work) 13 → b ≡ each (λ g. on (ltb 268435440 (16 * group_of u g)) 26) 5 → (a ▷ b) ≡ lengths_refusal w H v
+    refusal-by a b d e = (λ i. d i ▷ e i) ∙ refusal_is
 
     pub stream-is : front_of w H u ++ rows 13 (packet_bits_in w H work) ≡ stream_bits w H v
     unfolding stream_bits header_bits

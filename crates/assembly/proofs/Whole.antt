@@ -1,25 +1,19 @@
 -- A packet filled up to whole units. Assumes nothing.
-use mathlib.Core.Path.{◌≡◌, refl, sym, ap, ◌∙◌}
-use mathlib.Core.List.{List, [], ◌++◌}
-use Prim.Native.Nat.{ℕ, zero, suc, ◌+◌, ◌-◌, ◌*◌, ◌%◌, ◌≤◌}
-use native.Mathlib.Omega.{arith}
-use lib.IntN.{ℤ}
-use lib.ListN.{length, take, drop, length-append, length-drop, length-replicate}
-use lib.Seq.{length-take-le}
+use Rattle.std.proofs.Common.{◌≡◌, refl, sym, ap, ◌∙◌, List, [], ◌++◌, ℕ, zero, suc, ◌+◌, ◌-◌, ◌*◌, ◌%◌, ◌≤◌, arith, ℤ, length, length-append}
+use Rattle.std.proofs.Math.ListN.{length-replicate}
 use Rattle.lists.specs.Lists.{rows}
 use Rattle.lists.proofs.Rows.{length-rows}
 use Rattle.format.specs.Packets.{sum}
 use Rattle.format.specs.Writing.{zero_bits, units, filled, packed}
-use Rattle.encoding.specs.Wrote.{fresh, Wrote, Room, Appends}
+use Rattle.encoding.specs.Wrote.{Wrote, Fresh, Room, Appends}
 use Rattle.encoding.proofs.Widths.{length-number}
-use Rattle.encoding.proofs.Pushed.{appends-both, room_after, room-fresh, wrote_none}
+use Rattle.encoding.specs.Laws.{room_after}
+use Rattle.encoding.specs.declared.BitWriter.{BitWriter}
 use Rattle.encoding.proofs.Records.{length-filled}
-use Rattle.encoding.proofs.Finished.{packed-append}
-use Rattle.assembly.specs.Packet.{head_units_of, open_bits, head_of, bits_of, bytes_of, payload_of, heads_of, records_of, bits_in, Packs}
+use Rattle.encoding.proofs.Finished.{packed-append, fresh-wrote, fresh-room}
+use Rattle.assembly.specs.Packet.{head_units_of, open_bits, head_of, bits_of, bytes_of, payload_of, heads_of, records_of, bits_in}
 use Rattle.assembly.specs.declared.packet.Shape.{Shape}
-use Rattle.assembly.specs.declared.packet.Two.{Two}
 use Rattle.assembly.proofs.Shapes.{open-bits, length-head}
-use Rattle.assembly.proofs.Parts.{first_part, before, before-take, before-drop, before-length, packs-long}
 
 -- zeros up to n units
 pub filled-to : (b : List ℕ) (n : ℕ) → n ≡ units 128 b → b ++ zero_bits (8 * (16 * n) - length b) ≡ filled 128 b
@@ -66,63 +60,12 @@ module _ (z : Shape) (l : List ℤ) where
       let b = records_of z l z.records in
       omega (arith, length-append (filled 128 a) (filled 128 b), length-units a, length-units b)
 
--- ---- a packet in a slice s of just its bytes: the header is X, then t has all, in both parts
-module _ (z : Shape) (l : List ℤ) (s : List ℕ) (p : ℕ) (at : p ≡ 16 * head_units_of z) (long : length s ≡ 16 * (head_units_of z + payload_of z l)) where
-  abbrev O : List ℕ
-  O = open_bits z (payload_of z l)
+-- ---- a writer over a slice of its own: the room that is left, and the bits filled up to its end
+pub room-whole : (s : List ℕ) (w r : BitWriter) (x : List ℕ) (k : ℕ) → Fresh w s → Appends w r x → length x + k ≤ 8 * length s → Room r k
+room-whole s w r x k f a h = room_after w r x (length x + k) k (fresh-room w s (length x + k) f h) a (omega arith)
 
-  abbrev heads : List ℕ
-  heads = heads_of z l z.records
-
-  abbrev recs : List ℕ
-  recs = records_of z l z.records
-
-  pub head-within : p ≤ length s
-  head-within = omega arith
-
-  pub front_long : length (take (p - 0) s) ≡ p
-  front_long = ap length (first_part s p head-within) ∙ length-take-le p s head-within
-
-  heads-room : length O + length heads ≤ 8 * length (take (p - 0) s)
-  heads-room = omega (arith, front_long, length-append O heads, head-units z l)
-
-  records-room : length recs ≤ 8 * length (drop p s)
-  records-room = omega (arith, length-drop p s, payload-units z l)
-
-  module _ (X : List ℕ) (f : length X ≡ length (take (p - 0) s)) (w : Two) (a : Appends (take (p - 0) s) X fresh w.head O) (e : w.payload ≡ fresh) where
-    abbrev s1 : List ℕ
-    s1 = before s p head-within X f
-
-    pub heads-start : Room (take p s1) w.head (length heads)
-    heads-start =
-        rw (before-take s p head-within X f)
-        (room_after _ _ _ _ _ _ _ (room-fresh (take (p - 0) s) _ heads-room) a (omega arith))
-
-    pub records-start : Room (drop p s1) w.payload (length recs)
-    records-start = rw (e, before-drop s p head-within X f) (room-fresh (drop p s) _ records-room)
-
-    module _ (t : List ℕ) (r : Two) (b : Packs p s1 t w r heads recs) where
-      all-heads : Appends (take (p - 0) s) (take p t) fresh r.head (O ++ heads)
-      all-heads = appends-both _ _ _ _ _ _ _ _ _ a (rw (before-take s p head-within X f) at b.head) refl
-
-      all-records : Appends (drop p s1) (drop p t) fresh r.payload recs
-      all-records = rw e at b.payload
-
-      pub heads-end : Room (take p t) r.head 0
-      heads-end = room_after _ _ _ _ _ _ _ (room-fresh (take (p - 0) s) _ heads-room) all-heads (omega (arith, length-append O heads))
-
-      pub records-end : Room (drop p t) r.payload 0
-      records-end = room_after _ _ _ _ _ _ _ (rw e at records-start) all-records (omega arith)
-
-      pub heads-wrote : Wrote (take (p - 0) s) (take p t) r.head (O ++ heads)
-      heads-wrote = all-heads.wrote (take (p - 0) s) [] (wrote_none (take (p - 0) s))
-
-      pub records-wrote : Wrote (drop p s1) (drop p t) r.payload recs
-      records-wrote = all-records.wrote (drop p s1) [] (wrote_none (drop p s1))
-
-      pub whole-packet : (u : List ℕ) → u ≡ packed ((O ++ heads) ++ zero_bits (8 * p - length (O ++ heads))) ++ packed (recs ++ zero_bits (8 * (length t - p) - length recs)) → u ≡ packed (bits_in z l)
-      whole-packet u d =
-          let m : length t - p ≡ 16 * payload_of z l = omega (arith, packs-long _ _ _ _ _ _ _ b, before-length s p head-within X f) in
-          d ∙ (λ i. packed ((O ++ heads) ++ zero_bits (8 * at i - length (O ++ heads))) ++ packed (recs ++ zero_bits (8 * m i - length recs)))
-          ∙ (λ i. packed (filled-to (O ++ heads) (head_units_of z) (head-units z l) i) ++ packed (filled-to recs (payload_of z l) (payload-units z l) i))
-          ∙ packet-packed z l
+pub filled-whole : (s t : List ℕ) (w r : BitWriter) (x : List ℕ) (n : ℕ) → Fresh w s → Appends w r x → length s ≡ 16 * n → n ≡ units 128 x
+    → ((old y : List ℕ) → Wrote old r.out.now r.place r.cache r.held y → t ≡ packed (y ++ zero_bits (8 * length r.out.now - length y))) → t ≡ packed (filled 128 x)
+filled-whole s t w r x n f a long e h =
+    let m : length r.out.now ≡ 16 * n = a.long ∙ ap length f.slice ∙ long in
+    h s x (a.wrote s [] (fresh-wrote w s f)) ∙ ap (λ (k : ℕ). packed (x ++ zero_bits (8 * k - length x))) m ∙ ap packed (filled-to x n e)

@@ -1,14 +1,9 @@
 -- Header and directory of the stream, from the units of its 13 packets.
-use Rattle.std.specs.Prelude.{◌≡◌, List, ◌++◌, cond, ℕ, ◌+◌, ◌*◌, ◌/◌, ◌^◌, ◌<◌, length, get_or, ltb}
+use Rattle.std.specs.Prelude.{List, ◌++◌, cond, ℕ, ◌+◌, ◌*◌, ◌/◌, ◌^◌, ◌<◌, get_or, ltb}
 use Rattle.lists.specs.Lists.{rows}
 use Rattle.format.specs.Packets.{sum}
 use Rattle.format.specs.Sizes.{numbered}
 use Rattle.format.specs.Writing.{number_bits, zero_bits, entries}
-
--- 13 numbers, so small that no sum of them wraps
-pub record Units (u : List ℕ) : Type 0 where
-  pub long : length u ≡ 13
-  pub small : (p : ℕ) → get_or u p 0 < 2 ^ 48
 
 module _ (u : List ℕ) where
   -- the units of packet k of group g; of the group; and as its block has them

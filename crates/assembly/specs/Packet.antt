@@ -1,13 +1,11 @@
 -- A packet from the list of its numbers, record after record: its bits, and what it takes.
-use Rattle.std.specs.Prelude.{List, ◌++◌, ℕ, ◌+◌, ◌-◌, ◌*◌, ◌/◌, ◌^◌, ◌≤◌, ◌<◌, ℤ, take, drop, ltb}
+use Rattle.std.specs.Prelude.{List, ◌++◌, ℕ, ◌+◌, ◌-◌, ◌*◌, ◌/◌, ◌^◌, ◌≤◌, ◌<◌, ℤ, ltb}
 use Rattle.lists.specs.Lists.{rows, part}
 use Rattle.format.specs.Packets.{sum}
 use Rattle.format.specs.Refusals.{on, each}
 use Rattle.format.specs.Writing.{number_bits, zero_bits, units, filled}
-use Rattle.encoding.specs.Wrote.{Appends}
 use Rattle.encoding.specs.Record.{record_in}
 use Rattle.assembly.specs.declared.packet.Shape.{Shape}
-use Rattle.assembly.specs.declared.packet.Two.{Two}
 
 -- a shape that some packet has
 pub record Sound (z : Shape) : Type 0 where
@@ -61,8 +59,3 @@ module _ (z : Shape) (l : List ℤ) where
 
   unfoldable pub bits_in : List ℕ
   bits_in = filled 128 (open_bits z payload_of ++ heads_of z.records) ++ filled 128 (records_of z.records)
-
--- from s to t the bits x were written below place p, and y from there on
-pub record Packs (p : ℕ) (s t : List ℕ) (w r : Two) (x y : List ℕ) : Type 0 where
-  pub head : Appends (take p s) (take p t) w.head r.head x
-  pub payload : Appends (drop p s) (drop p t) w.payload r.payload y

@@ -6,7 +6,7 @@ use Rattle.format.specs.Coefficients.{Coefs}
 use Rattle.format.specs.Numbers.{packet_rows, packet_numbers}
 use Rattle.format.specs.Writing.{records, packet_units, lengths_refusal, stream_length}
 use Rattle.encoding.specs.Wrote.{Small, line}
-use Rattle.assembly.specs.declared.Sizes.{Sizes}
+use Rattle.assembly.specs.declared.front.Sizes.{Sizes}
 use Rattle.assembly.specs.declared.packet.Shape.{Shape}
 use Rattle.assembly.specs.Packet.{units_of, long_refusal, bits_in}
 
@@ -73,9 +73,8 @@ pub record Short (w H : ℕ) (work : List ℤ) : Type 0 where
 
 -- what is measured of the coefficients v
 pub record Measured (w H : ℕ) (v : Coefs) (r : Sizes) : Type 0 where
-  pub refusal : r.refusal ≡ lengths_refusal w H v
   pub long : r.length ≡ stream_length w H v
-  pub units : r.units ≡ tab 13 (λ p. packet_units w H v (group_in p) (colour_in p))
+  pub units : r.units.each ≡ tab 13 (λ p. packet_units w H v (group_in p) (colour_in p))
 
 -- some coefficients in the work slice, measured, that fill a stream of n bytes
 pub record Ready (w H : ℕ) (work : List ℤ) (r : Sizes) (n : ℕ) : Type 0 where

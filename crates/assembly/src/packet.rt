@@ -1,13 +1,13 @@
 // A packet, from the list of its numbers: its header, record headers, and records.
-ghost use Rattle.std.specs.Prelude.{◌≡◌, List, ◌++◌, ℕ, ◌+◌, ◌-◌, ◌*◌, ◌^◌, ◌<◌, ◌≤◌, length, take, drop, ltb};
+ghost use Rattle.std.specs.Prelude.{◌≡◌, ◌+◌, ◌*◌, ◌^◌, ◌<◌, ◌≤◌, length, ltb, IfOk};
 ghost use Rattle.format.specs.Refusals.{on};
-ghost use Rattle.format.specs.Writing.{zero_bits, units, filled, packed};
-ghost use Rattle.encoding.specs.Wrote.{fresh, Wrote, Room, Appends, Small, line};
-ghost use Rattle.encoding.specs.Record.{record_in};
-ghost use Rattle.assembly.specs.Packet.{Sound, head_units_of, open_bits, head_of, payload_of, units_of, long_refusal, heads_of, records_of, bits_in, Packs};
+ghost use Rattle.format.specs.Writing.{filled, packed};
+ghost use Rattle.refusals.specs.Number.{code_of};
+ghost use Rattle.encoding.specs.Wrote.{Room, Appends, Small, line};
+ghost use Rattle.assembly.specs.Packet.{Sound, head_units_of, open_bits, head_of, numbers_at, bits_of, bytes_of, payload_of, units_of, long_refusal, heads_of, records_of, bits_in};
 
-use encoding::{BitWriter, Code, both, fill_up, put_record, record_bytes};
-use words::first_of;
+use encoding::{BitWriter, Code, Sink, put_record, record_bytes};
+use refusals::Refusal;
 
 // What a packet's records hold: its components, the rows of a record, their columns; and how many records there are.
 #[derive(Clone, Copy)]
@@ -18,141 +18,112 @@ pub struct Shape {
     pub records: usize,
 }
 
-// The writer of a packet's headers, and that of its payload.
+// Whether n is not above the most that passes.
+pub fn within(most: u64, n: u64) -> Result<(), Refusal>
+    ensures { code_of result ≡ on (ltb most n) 26 }
+{
+    if most < n {
+        return Err(Refusal::TooLong);
+    }
+    Ok(())
+}
+
+// A packet that is to be written: its numbers, record after record, and its shape.
 #[derive(Clone, Copy)]
-pub struct Two {
-    pub head: BitWriter,
-    pub payload: BitWriter,
+pub struct Packet<'a> {
+    pub numbers: &'a [i32],
+    pub shape: Shape,
+    ghost sound: { Sound shape },
+    ghost long: { length numbers.now ≡ shape.records * (shape.rows * shape.cols) },
+    ghost small: { Small (line numbers.now) },
 }
 
-// The bytes up to a packet's payload, which starts at the first unit after the record headers.
-fn head_bytes(z: Shape) -> usize
-    requires { Sound z }
-    ensures { (result ≡ 16 * head_units_of z) × (result < 2 ^ 16) }
-{
-    (128 + (16 + 4 * (z.components as usize)) * z.records + 127) / 128 * 16
-}
-
-// Writes a packet's header; its payload takes n units.
-fn put_open(out: &mut [u8], z: Shape, n: u64) -> BitWriter
-    requires { Sound z × (n < 2 ^ 24) × (16 ≤ length out.old) }
-    ensures { Appends out.old out.new fresh result (open_bits z n) }
-{
-    let head = head_bytes(z);
-    let a = BitWriter::new().put(out, 16, (head / 16 - 1) as u64);
-    let b = a.put(out, 24, n);
-    let c = b.put(out, 8, 0x40);
-    let d = c.put(out, 8, z.components * 64);
-    let e = d.put(out, 16, z.records as u64);
-    e.put(out, 56, 16 << 48)
-}
-
-// Writes one record, whose numbers are l: its bytes from p on, then its length and selectors below p.
-fn put_next(two: Two, out: &mut [u8], p: usize, l: &[i32], z: Shape) -> Two
-    requires sound { Sound z × (p ≤ length out.old) × (length l.now ≡ z.rows * z.cols) × Small (line l.now) × (units 8 (record_in z.cols z.rows l.now) < 2 ^ 16) × (two.payload.held ≡ 0) }
-    requires room { Room (take p out.old) two.head (16 + 4 * z.components) × Room (drop p out.old) two.payload (length (filled 8 (record_in z.cols z.rows l.now))) }
-    ensures { Packs p out.old out.new two result (head_of z (units 8 (record_in z.cols z.rows l.now))) (filled 8 (record_in z.cols z.rows l.now)) × (result.payload.held ≡ 0) }
-{
-    let before = two.payload;
-    let start = before.place;
-    let after = put_record(before, &mut out[p..], l, z.cols, z.rows);
-    let bytes = after.place - start;
-    let code = both(
-        Code {
-            n: 16,
-            v: bytes as u64,
-        },
-        Code {
-            n: 4 * z.components,
-            v: 0,
-        },
-    );
-    let head = two.head;
-    let next = head.put(&mut out[0..p], code.n, code.v);
-    Two {
-        head: next,
-        payload: after,
+impl<'a> Packet<'a> {
+    // The numbers of record k.
+    fn record(self, k: usize) -> &'a [i32]
+        requires { k < self.shape.records }
+        ensures { result.now ≡ numbers_at self.entry.shape self.entry.numbers.now k }
+    {
+        let n = self.shape.rows * self.shape.cols;
+        let a = k * n;
+        &self.numbers[a..a + n]
     }
-}
 
-// Writes the records of l, one after the other.
-fn put_records(two: Two, out: &mut [u8], p: usize, l: &[i32], z: Shape) -> Two
-    requires sound { Sound z × (p ≤ length out.old) × (length l.now ≡ z.records * (z.rows * z.cols)) × Small (line l.now) × (long_refusal z l.now ≡ 0) × (two.payload.held ≡ 0) }
-    requires room { Room (take p out.old) two.head (length (heads_of z l.now z.records)) × Room (drop p out.old) two.payload (length (records_of z l.now z.records)) }
-    ensures { Packs p out.old out.new two result (heads_of z l.now z.records) (records_of z l.now z.records) }
-{
-    let mut r = two;
-    let mut a: usize = 0;
-    let mut k: usize = 0;
-    while k < z.records {
-        let end = a + z.rows * z.cols;
-        r = put_next(r, out, p, &l[a..end], z);
-        a = end;
-        k += 1;
+    // The bytes up to its payload, which starts at the first unit after the record headers.
+    fn head_bytes(self) -> usize
+        ensures { (result ≡ 16 * head_units_of self.entry.shape) × (result < 2 ^ 16) }
+    {
+        let z = self.shape;
+        (128 + (16 + 4 * (z.components as usize)) * z.records + 127) / 128 * 16
     }
-    r
-}
 
-// Writes zeros up to the ends of both.
-fn fill_both(two: Two, out: &mut [u8], p: usize)
-    requires { (p ≤ length out.old) × Room (take p out.old) two.head 0 × Room (drop p out.old) two.payload 0 }
-    ensures { (old x old' y : List ℕ) → Wrote old (take p out.old) two.head x → Wrote old' (drop p out.old) two.payload y → out.new ≡ packed (x ++ zero_bits (8 * p - length x)) ++ packed (y ++ zero_bits (8 * (length out.old - p) - length y)) }
-{
-    let head = two.head;
-    fill_up(head, &mut out[0..p]);
-    let payload = two.payload;
-    fill_up(payload, &mut out[p..]);
-}
-
-// Writes a packet over the whole of `out`.
-pub fn put_packet(out: &mut [u8], l: &[i32], z: Shape)
-    requires { Sound z × (length l.now ≡ z.records * (z.rows * z.cols)) × Small (line l.now) × (long_refusal z l.now ≡ 0) × (length out.old ≡ 16 * units_of z l.now) × (payload_of z l.now < 2 ^ 24) }
-    ensures { out.new ≡ packed (bits_in z l.now) }
-{
-    let p = head_bytes(z);
-    let n = (out.len() - p) / 16;
-    let head = put_open(&mut out[0..p], z, n as u64);
-    let start = Two {
-        head,
-        payload: BitWriter::new(),
-    };
-    let end = put_records(start, out, p, l, z);
-    fill_both(end, out, p);
-}
-
-// What a packet takes: its units, and 26 where a record is too long.
-#[derive(Clone, Copy)]
-pub struct Extent {
-    pub units: u64,
-    pub refusal: u64,
-}
-
-// 26 where n is above the most that passes.
-pub fn over(most: u64, n: u64) -> u64
-    ensures { result ≡ on (ltb most n) 26 }
-{
-    if most < n { 26 } else { 0 }
-}
-
-// Measures a packet.
-pub fn measure_packet(l: &[i32], z: Shape) -> Extent
-    requires { Sound z × (length l.now ≡ z.records * (z.rows * z.cols)) × Small (line l.now) }
-    ensures { (result.units ≡ units_of z l.now) × (result.refusal ≡ long_refusal z l.now) × (result.units < 2 ^ 48) }
-{
-    let mut bytes: u64 = 0;
-    let mut refusal: u64 = 0;
-    let mut a: usize = 0;
-    let mut k: usize = 0;
-    while k < z.records {
-        let end = a + z.rows * z.cols;
-        let n = record_bytes(&l[a..end], z.cols, z.rows);
-        refusal = first_of(refusal, over(65535, n));
-        bytes += n;
-        a = end;
-        k += 1;
+    // Its units.
+    pub fn measure(self) -> Result<u64, Refusal>
+        ensures refusal { code_of result ≡ long_refusal self.entry.shape self.entry.numbers.now }
+        ensures units { IfOk result (λ n. (n ≡ units_of self.entry.shape self.entry.numbers.now) × (n < 2 ^ 48)) }
+    {
+        let mut bytes = 0;
+        for k in 0..self.shape.records {
+            let n = record_bytes(self.record(k), self.shape.cols, self.shape.rows);
+            within(65535, n)?;
+            bytes += n;
+        }
+        Ok((self.head_bytes() as u64) / 16 + (bytes + 15) / 16)
     }
-    Extent {
-        units: (head_bytes(z) as u64) / 16 + (bytes + 15) / 16,
-        refusal,
+
+    // Writes its header; its payload takes n units.
+    fn put_open(self, w: &mut BitWriter, n: u64)
+        requires { (n < 2 ^ 24) × Room w.old 128 }
+        ensures { Appends w.old w.new (open_bits self.entry.shape n) }
+    {
+        let z = self.shape;
+        w.put(Code::new(16, (self.head_bytes() / 16 - 1) as u64));
+        w.put(Code::new(24, n));
+        w.put(Code::new(8, 0x40));
+        w.put(Code::new(8, z.components * 64));
+        w.put(Code::new(16, z.records as u64));
+        w.put(Code::new(56, 16 << 48));
+    }
+
+    // Writes record k, and its length and selectors to the headers.
+    fn put_next(self, head: &mut BitWriter, payload: &mut BitWriter, k: usize)
+        requires sound { (k < self.shape.records) × (bytes_of self.shape self.numbers.now k < 2 ^ 16) × (payload.old.held ≡ 0) }
+        requires room { Room head.old (16 + 4 * self.shape.components) × Room payload.old (length (filled 8 (bits_of self.shape self.numbers.now k))) }
+        ensures header { Appends head.old head.new (head_of self.entry.shape (bytes_of self.entry.shape self.entry.numbers.now k)) }
+        ensures record_after { Appends payload.old payload.new (filled 8 (bits_of self.entry.shape self.entry.numbers.now k)) × (payload.new.held ≡ 0) }
+    {
+        let z = self.shape;
+        let start = payload.place;
+        put_record(payload, self.record(k), z.cols, z.rows);
+        let bytes = (payload.place - start) as u64;
+        head.put(Code::new(16, bytes).then(Code::zeros(4 * z.components)));
+    }
+
+    // Writes the records, one after the other.
+    fn put_records(self, head: &mut BitWriter, payload: &mut BitWriter)
+        requires sound { (long_refusal self.shape self.numbers.now ≡ 0) × (payload.old.held ≡ 0) }
+        requires room { Room head.old (length (heads_of self.shape self.numbers.now self.shape.records)) × Room payload.old (length (records_of self.shape self.numbers.now self.shape.records)) }
+        ensures heads { Appends head.old head.new (heads_of self.entry.shape self.entry.numbers.now self.entry.shape.records) }
+        ensures records { Appends payload.old payload.new (records_of self.entry.shape self.entry.numbers.now self.entry.shape.records) }
+    {
+        for k in 0..self.shape.records {
+            self.put_next(head, payload, k);
+        }
+    }
+
+    // Writes it over the whole of `out`.
+    pub fn put(self, out: &mut [u8])
+        requires { (long_refusal self.shape self.numbers.now ≡ 0) × (length out.old ≡ 16 * units_of self.shape self.numbers.now) × (payload_of self.shape self.numbers.now < 2 ^ 24) }
+        ensures { out.new ≡ packed (bits_in self.entry.shape self.entry.numbers.now) }
+    {
+        let p = self.head_bytes();
+        let n = ((out.len() - p) / 16) as u64;
+        let (front, rest) = out.split_at_mut(p);
+        let mut head = BitWriter::new(front);
+        let mut payload = BitWriter::new(rest);
+        self.put_open(&mut head, n);
+        self.put_records(&mut head, &mut payload);
+        head.fill_up();
+        payload.fill_up();
     }
 }

@@ -14,7 +14,7 @@ use Rattle.bits.specs.View.{change_of}
 
 -- the reader is past its bits, and the width is what it gives
 pub change-update : (s : List ℕ) (r : Reader) (w word m : ℕ) → word < 2 ^ 64 → word / 2 ^ (64 - m) ≡ bits_at s r.place m → m ≤ 64 → m ≤ r.remaining → r.status ≡ 0
-    → (change_of word w).used ≤ m → update_of s r w ≡ record { value = (change_of word w).width; reader = skipped r (change_of word w).used }
+    → (change_of word w).used ≤ m → update_of s r w ≡ record { value = (change_of word w).value; reader = skipped r (change_of word w).used }
 unfolding change_of
 change-update s r w word m fits holds most enough go room =
     let z = count_leading_zeros 64 (word * 2 ^ 2 % 2 ^ 64) in

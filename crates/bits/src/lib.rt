@@ -1,27 +1,19 @@
 // The coefficient bit reader.
 #![tactic(auto)]
 
-ghost use Rattle.std.specs.Prelude.{◌≡◌, cond, ◌+◌, ◌/◌, ◌^◌, ◌<◌, ◌≤◌, leb, length};
+ghost use Rattle.std.specs.Prelude.{◌≡◌, true, false, cond, ◌+◌, ◌/◌, ◌^◌, ◌<◌, ◌≤◌, leb, length};
 ghost use Rattle.format.specs.Bits.{bits_at, zeros_at};
 ghost use Rattle.format.specs.Reader.{allowance, start_of, skipped, spent, read_of, unary_of, find_of, update_second, update_of, run_of, bit_length};
 ghost use Rattle.format.specs.Coefficients.{four_of};
-ghost use Rattle.bits.specs.View.{as_reader, as_taken, as_four, Ready, ReadyBelow, ReadyBelowFour, change_of};
+ghost use Rattle.bits.specs.View.{number_of, as_reader, as_taken, as_four, Ready, ReadyBelow, ReadyBelowFour, change_of};
 
-use words::{least, less, top, window};
+use words::{top, window};
 
 // The bits that x has.
 pub fn bit_length(x: u64) -> u64
     ensures { (result ≡ bit_length x) × (result ≤ 64) }
 {
-    64 - (u64::leading_zeros(x) as u64)
-}
-
-// 2 to the n.
-fn power(n: u64) -> u64
-    requires { n < 64 }
-    ensures { result ≡ 2 ^ n }
-{
-    1u64 << n
+    64 - x.leading_zeros() as u64
 }
 
 // The zeros before the first one among `limit` bits from a place on, by words of 57 bits, of which the first is in hand.
@@ -31,19 +23,31 @@ fn zeros_ahead(packet: &[u8], place: u64, cache: u64, limit: u64) -> u64
     ensures { (result ≡ zeros_at packet.now place limit) × (result ≤ limit) }
 {
     let mut word = cache;
-    let mut passed: u64 = 0;
-    while passed < limit {
-        let z = u64::leading_zeros(word) as u64;
+    for passed in (0..limit).step_by(57) {
+        let z = word.leading_zeros() as u64;
         if z < 57 {
-            if passed + z < limit {
-                return passed + z;
-            }
-            return limit;
+            return limit.min(passed + z);
         }
-        passed += 57;
-        word = window(packet, place + passed);
+        word = window(packet, place + passed + 57);
     }
     limit
+}
+
+// What a reader has met: nothing yet, a width above 19, or the end of its allowance.
+#[derive(Clone, Copy, PartialEq, Eq)]
+pub enum Status {
+    Good,
+    Broken,
+    Spent,
+}
+
+impl Status {
+    // Whether nothing more is read.
+    pub fn stops(self) -> bool
+        ensures { (result ≡ true → number_of self ≡ 0 → ⊥) × (result ≡ false → number_of self ≡ 0) }
+    {
+        self != Status::Good
+    }
 }
 
 // A place in a packet's bits, a word of the bits from there, the bits left of the allowance, and the status.
@@ -52,69 +56,54 @@ pub struct BitReader {
     pub place: u64,
     pub cache: u64,
     pub remaining: u64,
-    pub status: u64,
+    pub status: Status,
 }
 
-// A value that was read, and the reader after it.
+// What was read, and the reader after it.
 #[derive(Clone, Copy)]
-pub struct Taken {
-    pub value: u64,
+pub struct Taken<T> {
+    pub value: T,
     pub reader: BitReader,
 }
 
-// Four values that were read, and the reader after them.
+// Four of a group.
 #[derive(Clone, Copy)]
-pub struct Four {
-    pub a: u64,
-    pub b: u64,
-    pub c: u64,
-    pub d: u64,
-    pub reader: BitReader,
+pub struct Four<T> {
+    pub a: T,
+    pub b: T,
+    pub c: T,
+    pub d: T,
 }
 
-// A width, and the bits that its update took.
+// What stands in a word, and the bits of it that it takes.
 #[derive(Clone, Copy)]
-pub struct Change {
-    pub width: u64,
+pub struct Used<T> {
+    pub value: T,
     pub used: u64,
 }
 
 // A width update out of a word: 0 keeps the width, 10 adds a unary, 11 takes off the place of the next one.
-pub fn changed(word: u64, width: u64) -> Change
+pub fn changed(word: u64, width: u64) -> Used<u64>
     requires { width < 2 ^ 32 }
     ensures { (result ≡ change_of word width) × (result.used ≤ 67) }
 {
     if word < 0x8000_0000_0000_0000 {
-        return Change { width, used: 1 };
+        return Used {
+            value: width,
+            used: 1,
+        };
     }
-    let z = u64::leading_zeros(word << 2) as u64;
+    let z = (word << 2).leading_zeros() as u64;
     if word < 0xC000_0000_0000_0000 {
-        return Change {
-            width: width + z + 1,
+        return Used {
+            value: width + z + 1,
             used: z + 3,
         };
     }
-    Change {
-        width: less(width, z + 1),
-        used: least(z + 1, less(width, 1)) + 2,
+    Used {
+        value: width.saturating_sub(z + 1),
+        used: (z + 1).min(width.saturating_sub(1)) + 2,
     }
-}
-
-// An update of width 0 out of a word: 10 gives a unary, and no bits are looked through after 11.
-fn opened(word: u64) -> Change
-    ensures { (result ≡ change_of word 0) × (result.used ≤ 67) }
-{
-    if word < 0x8000_0000_0000_0000 {
-        return Change { width: 0, used: 1 };
-    }
-    if word < 0xC000_0000_0000_0000 {
-        let z = u64::leading_zeros(word << 2) as u64;
-        return Change {
-            width: z + 1,
-            used: z + 3,
-        };
-    }
-    Change { width: 0, used: 2 }
 }
 
 // The allowance of a byte length, in bits.
@@ -127,9 +116,9 @@ pub fn allowance(bytes: u64) -> u64
 
 impl BitReader {
     // A reader at a place, with a word of the bits from there.
-    fn at(packet: &[u8], place: u64, remaining: u64, status: u64) -> BitReader
+    fn at(packet: &[u8], place: u64, remaining: u64, status: Status) -> BitReader
         requires { (8 ≤ length packet.now) × (place + remaining < 2 ^ 40) }
-        ensures value { as_reader result ≡ record { place = place; remaining = remaining; status = status } }
+        ensures value { as_reader result ≡ record { place = place; remaining = remaining; status = number_of status } }
         ensures ready { Ready packet.now result }
     {
         BitReader {
@@ -146,7 +135,7 @@ impl BitReader {
         ensures value { as_reader result ≡ start_of offset bytes }
         ensures ready { Ready packet.now result }
     {
-        BitReader::at(packet, offset * 8, allowance(bytes), 0)
+        BitReader::at(packet, offset * 8, allowance(bytes), Status::Good)
     }
 
     // Past n bits.
@@ -165,24 +154,28 @@ impl BitReader {
         ensures value { as_reader result ≡ spent (as_reader self) }
         ensures ready { Ready packet.now result }
     {
-        BitReader::at(packet, self.place + self.remaining, 0, 2)
+        BitReader::at(packet, self.place + self.remaining, 0, Status::Spent)
     }
 
     // The status after n bits.
-    fn status_past(self, n: u64) -> u64
-        ensures { result ≡ cond (leb n self.remaining) self.status 2 }
+    fn status_past(self, n: u64) -> Status
+        ensures { number_of result ≡ cond (leb n self.remaining) (number_of self.status) 2 }
     {
-        if n <= self.remaining { self.status } else { 2 }
+        if n <= self.remaining {
+            self.status
+        } else {
+            Status::Spent
+        }
     }
 
     // n bits. Short, so that the compiler makes it part of each loop that reads.
-    pub fn read(self, packet: &[u8], n: u64) -> Taken
+    pub fn read(self, packet: &[u8], n: u64) -> Taken<u64>
         requires ready { Ready packet.now self }
         requires few_bits { n ≤ 57 }
         ensures value { as_taken result ≡ read_of packet.now (as_reader self) n }
         ensures ready_below { ReadyBelow packet.now result (2 ^ n) }
     {
-        let k = least(n, self.remaining);
+        let k = n.min(self.remaining);
         let status = self.status_past(n);
         Taken {
             value: top(self.cache, k) << (n - k),
@@ -200,7 +193,7 @@ impl BitReader {
     }
 
     // n bits, four times. One word holds them all where they are short.
-    pub fn read4(self, packet: &[u8], n: u64) -> Four
+    pub fn read4(self, packet: &[u8], n: u64) -> Taken<Four<u64>>
         requires ready { Ready packet.now self }
         requires few_bits { n ≤ 57 }
         ensures value { as_four result ≡ four_of packet.now (as_reader self) n }
@@ -209,11 +202,13 @@ impl BitReader {
         if n < 15 {
             if 4 * n <= self.remaining {
                 let w = self.cache;
-                return Four {
-                    a: top(w, n),
-                    b: top(w << n, n),
-                    c: top(w << (2 * n), n),
-                    d: top(w << (3 * n), n),
+                return Taken {
+                    value: Four {
+                        a: top(w, n),
+                        b: top(w << n, n),
+                        c: top(w << (2 * n), n),
+                        d: top(w << (3 * n), n),
+                    },
                     reader: self.skip(packet, 4 * n),
                 };
             }
@@ -226,17 +221,19 @@ impl BitReader {
         let rc = c.reader;
         let d = rc.read(packet, n);
         let rd = d.reader;
-        Four {
-            a: a.value,
-            b: b.value,
-            c: c.value,
-            d: d.value,
+        Taken {
+            value: Four {
+                a: a.value,
+                b: b.value,
+                c: c.value,
+                d: d.value,
+            },
             reader: rd,
         }
     }
 
     // The zeros before the next one, and one.
-    pub fn unary(self, packet: &[u8]) -> Taken
+    pub fn unary(self, packet: &[u8]) -> Taken<u64>
         requires { Ready packet.now self }
         ensures value { as_taken result ≡ unary_of packet.now (as_reader self) }
         ensures ready_below { ReadyBelow packet.now result (self.remaining + 2) }
@@ -256,13 +253,13 @@ impl BitReader {
     }
 
     // The zeros before the first one among k bits, and the reader after that one; k where there is none.
-    fn find(self, packet: &[u8], k: u64) -> Taken
+    fn find(self, packet: &[u8], k: u64) -> Taken<u64>
         requires { Ready packet.now self }
         ensures value { as_taken result ≡ find_of packet.now (as_reader self) k }
         ensures ready_below { ReadyBelow packet.now result (k + 1) }
     {
         let left = self.remaining;
-        let limit = least(k, left);
+        let limit = k.min(left);
         let z = zeros_ahead(packet, self.place, self.cache, limit);
         if z < limit {
             return Taken {
@@ -282,48 +279,29 @@ impl BitReader {
         }
     }
 
-    // The width after a width update, out of the cache where that holds it whole.
-    pub fn width_update(self, packet: &[u8], width: u64) -> Taken
+    // The width after a width update, out of the cache where that holds it whole. OPENING gives the first update of a row an instance of its own,
+    // so that each has one caller, and the compiler makes it part of that caller's loop.
+    pub fn width_update<const OPENING: bool>(self, packet: &[u8], width: u64) -> Taken<u64>
         requires ready { Ready packet.now self }
         requires width_bound { width < 2 ^ 32 }
         ensures value { as_taken result ≡ update_of packet.now (as_reader self) width }
         ensures still_ready { Ready packet.now result.reader }
     {
-        if self.status != 0 {
+        if self.status.stops() {
             return self.width_first(packet, width);
         }
         let u = changed(self.cache, width);
-        if least(self.remaining, 57) < u.used {
+        if self.remaining.min(57) < u.used {
             return self.width_first(packet, width);
         }
         Taken {
-            value: u.width,
-            reader: self.skip(packet, u.used),
-        }
-    }
-
-    // The width that a row opens with, an update of 0. It stands beside `width_update` so that each has one caller, and the compiler makes it
-    // part of that caller's loop.
-    pub fn width_opening(self, packet: &[u8]) -> Taken
-        requires { Ready packet.now self }
-        ensures value { as_taken result ≡ update_of packet.now (as_reader self) 0 }
-        ensures ready { Ready packet.now result.reader }
-    {
-        if self.status != 0 {
-            return self.width_first(packet, 0);
-        }
-        let u = opened(self.cache);
-        if least(self.remaining, 57) < u.used {
-            return self.width_first(packet, 0);
-        }
-        Taken {
-            value: u.width,
+            value: u.value,
             reader: self.skip(packet, u.used),
         }
     }
 
     // The same bit by bit: 0 keeps it, 10 adds a unary, 11 takes off the place of the next one.
-    fn width_first(self, packet: &[u8], width: u64) -> Taken
+    fn width_first(self, packet: &[u8], width: u64) -> Taken<u64>
         requires ready { Ready packet.now self }
         requires width_bound { width < 2 ^ 32 }
         ensures value { as_taken result ≡ update_of packet.now (as_reader self) width }
@@ -337,7 +315,7 @@ impl BitReader {
                 reader: first,
             };
         }
-        if first.status != 0 {
+        if first.status.stops() {
             return Taken {
                 value: width,
                 reader: first,
@@ -347,7 +325,7 @@ impl BitReader {
     }
 
     // The same from the second opening bit on.
-    fn width_second(self, packet: &[u8], width: u64) -> Taken
+    fn width_second(self, packet: &[u8], width: u64) -> Taken<u64>
         requires ready { Ready packet.now self }
         requires width_bound { width < 2 ^ 32 }
         ensures value { as_taken result ≡ update_second packet.now width (read_of packet.now (as_reader self) 1) }
@@ -355,7 +333,7 @@ impl BitReader {
     {
         let b = self.read(packet, 1);
         let second = b.reader;
-        if second.status != 0 {
+        if second.status.stops() {
             return Taken {
                 value: width,
                 reader: second,
@@ -369,16 +347,16 @@ impl BitReader {
                 reader: after,
             };
         }
-        let f = second.find(packet, less(width, 1));
+        let f = second.find(packet, width.saturating_sub(1));
         let after = f.reader;
         Taken {
-            value: less(width, f.value + 1),
+            value: width.saturating_sub(f.value + 1),
             reader: after,
         }
     }
 
     // The length of a run of zero groups, of which `groups` are left.
-    pub fn zero_run(self, packet: &[u8], groups: u64) -> Taken
+    pub fn zero_run(self, packet: &[u8], groups: u64) -> Taken<u64>
         requires ready { Ready packet.now self }
         requires groups_bound { groups < 2 ^ 32 }
         ensures value { as_taken result ≡ run_of packet.now (as_reader self) groups }
@@ -401,7 +379,7 @@ impl BitReader {
                 reader: after,
             };
         }
-        if after.status != 0 {
+        if after.status.stops() {
             return Taken {
                 value: groups,
                 reader: after,
@@ -410,7 +388,7 @@ impl BitReader {
         let extra = after.read(packet, z);
         let end = extra.reader;
         Taken {
-            value: least(power(z) + extra.value, groups),
+            value: ((1 << z) + extra.value).min(groups),
             reader: end,
         }
     }

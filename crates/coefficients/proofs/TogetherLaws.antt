@@ -9,7 +9,7 @@ use Rattle.format.specs.Packets.{kind, blocks}
 use Rattle.coefficients.specs.Together.{together}
 
 pub together-holds : (p : List ℕ) (m cols n size : ℕ) → together p m cols n size ≡ true
-    → ((16 ≤ length p) × (m ≤ 8) × (cols < 2 ^ 16)) × ((n < 2 ^ 16) × (blocks p ≤ n) × (size ≡ n * (kind p * m * cols)))
+    → (16 ≤ length p) × ((m ≤ 8) × (cols < 2 ^ 16)) × ((n < 2 ^ 16) × (blocks p ≤ n) × (size ≡ n * (kind p * m * cols)))
 unfolding together
 together-holds p m cols n size e =
     let a = (and-eq-true_iff _ _).0 e in
@@ -17,4 +17,4 @@ together-holds p m cols n size e =
     let c = (and-eq-true_iff _ _).0 b.0 in
     let d = (and-eq-true_iff _ _).0 c.0 in
     let f = (and-eq-true_iff _ _).0 d.0 in
-    ((leb-true _ _ f.0, leb-true _ _ f.1, ltb-true _ _ d.1), (ltb-true _ _ c.1, leb-true _ _ b.1, eqb-true _ _ a.1))
+    (leb-true _ _ f.0, (leb-true _ _ f.1, ltb-true _ _ d.1), (ltb-true _ _ c.1, leb-true _ _ b.1, eqb-true _ _ a.1))

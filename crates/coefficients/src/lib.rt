@@ -5,7 +5,7 @@ ghost use Rattle.std.specs.Prelude.{◌≡◌, cond, length};
 ghost use Rattle.format.specs.Coefficients.{packet_values};
 ghost use Rattle.coefficients.specs.Together.{together, answer_of};
 
-use fields::{blocks, kind};
+use fields::Packet;
 use records::decode_packet;
 
 // Columns and records are below this.
@@ -27,14 +27,15 @@ fn fits(packet: &[u8], m: usize, cols: usize, n: usize, size: usize) -> bool
     if LIMIT <= n {
         return false;
     }
-    if n < blocks(packet) {
+    let header = Packet::new(packet);
+    if n < header.blocks() {
         return false;
     }
-    size == n * (kind(packet) * m * cols)
+    size == n * (header.kind() * m * cols)
 }
 
 // Whether packet, sizes and band go together, 1 or 0, how many records of the packet are broken and spent, and the bits
-// that they took.
+// that they took. A flag beside the counts, since C reads it.
 #[repr(C)]
 #[derive(Clone, Copy)]
 pub struct PacketCounts {
@@ -58,7 +59,7 @@ pub fn arw6_packet(packet: &[u8], m: usize, cols: usize, n: usize, band: &mut [i
             bits: 0,
         };
     }
-    let counts = decode_packet(packet, m, cols, n, band);
+    let counts = decode_packet(&Packet::new(packet), m, cols, n, band);
     PacketCounts {
         together: 1,
         broken: counts.broken,

@@ -1,18 +1,13 @@
--- A writer that holds no bit: the slice is the bits, packed, and then what was there. Assumes nothing.
-use mathlib.Core.Path.{◌≡◌, refl, sym, ap, ◌∙◌}
-use mathlib.Core.List.{List, [], ◌++◌, append-nil}
-use Prim.Native.Nat.{ℕ, zero, suc, ◌+◌, ◌-◌, ◌*◌, ◌/◌, ◌%◌, ◌≤◌, ◌<◌}
-use native.Mathlib.Omega.{arith}
-use lib.ListN.{length, get_or, take, drop, take-append-drop, length-append, length-replicate, replicate-append-replicate, get_or-append}
-use lib.Seq.{ext_get_or, get_or-take, length-take-le, drop-length, get_or-append-add}
+-- A writer that holds no bit: its bytes are the bits, packed. Assumes nothing.
+use Rattle.std.proofs.Common.{◌≡◌, refl, sym, ap, ◌∙◌, List, [], ◌++◌, append_assoc, ℕ, zero, suc, ◌+◌, ◌-◌, ◌*◌, ◌/◌, ◌%◌, ◌≤◌, ◌<◌, arith, length, get_or, replicate, take, length-append, take_all, ext_get_or, get_or-take, length-take-le, get_or-append-add, ⊎_elim}
+use Rattle.std.proofs.Math.ListN.{get_or-eq_default, get_or-replicate, length-replicate, replicate-append-replicate, get_or-append}
 use Rattle.lists.specs.Lists.{tab, rows}
 use Rattle.lists.proofs.Tab.{get_or-tab, length-tab, tab-add, tab-same}
 use Rattle.format.specs.Bits.{bit_at, bits_at}
-use Rattle.format.proofs.BitLaws.{byte-bits}
+use Rattle.format.proofs.BitLaws.{byte-bits, le-or-lt}
 use Rattle.format.specs.Writing.{zero_bits, byte_at, packed}
-use Rattle.encoding.specs.Wrote.{Wrote, Room, Appends}
+use Rattle.encoding.specs.Wrote.{Wrote, Fresh, Room, Appends}
 use Rattle.encoding.specs.declared.BitWriter.{BitWriter}
-use Rattle.encoding.proofs.Pushed.{appends-both}
 
 -- byte i is made of its eight bits
 byte_of : (s b : List ℕ) (i : ℕ) → get_or s i 0 < 256 → ((j : ℕ) → j < 8 → bit_at s (8 * i + j) ≡ get_or b (8 * i + j) 0) → get_or s i 0 ≡ byte_at b i
@@ -22,52 +17,36 @@ byte_of s b i small h =
     let h0 : bit_at s (8 * i + 0) ≡ get_or b (8 * i) 0 = h 0 (omega arith) ∙ ap (λ (k : ℕ). get_or b k 0) z in
     omega (arith, byte-bits s i small, h0, h 1 (omega arith), h 2 (omega arith), h 3 (omega arith), h 4 (omega arith), h 5 (omega arith), h 6 (omega arith), h 7 (omega arith))
 
-module _ (old s : List ℕ) (w : BitWriter) (b : List ℕ) (bytes : (i : ℕ) → get_or s i 0 < 256) (h : Wrote old s w b) (none : w.held ≡ 0) (within : w.place ≤ length s) where
-  front : take w.place s ≡ packed b
-  unfolding packed
-  front =
-      let p = w.place in
-      let n : length b / 8 ≡ p = omega (arith, h.held.long) in
-      ext_get_or 0 (take p s) (packed b) (length-take-le p s within ∙ sym (length-tab (length b / 8) (byte_at b) ∙ n))
-      (λ i l.
-      let k : i < p = omega (arith, length-take-le p s within) in
-      get_or-take p s i 0 k
-      ∙ byte_of s b i (bytes i) (λ j q. h.out (8 * i + j) (omega arith))
-      ∙ sym (get_or-tab (length b / 8) (byte_at b) i 0 (omega arith)))
-
-  pub wrote-packed : s ≡ packed b ++ drop w.place old
-  wrote-packed = sym (take-append-drop w.place s) ∙ (λ i. front i ++ h.kept i)
+-- a writer that holds no bit: its bytes are the bits, packed
+pub front : (old s : List ℕ) (place cache held : ℕ) (b : List ℕ) → ((i : ℕ) → i < place → get_or s i 0 < 256) → Wrote old s place cache held b → held ≡ 0 → place ≤ length s → take place s ≡ packed b
+unfolding packed
+front old s p cache held b bytes h none within =
+    let n : length b / 8 ≡ p = omega (arith, h.held.long) in
+    ext_get_or 0 (take p s) (packed b) (length-take-le p s within ∙ sym (length-tab (length b / 8) (byte_at b) ∙ n))
+    (λ i l.
+    let k : i < p = omega (arith, length-take-le p s within) in
+    get_or-take p s i 0 k
+    ∙ byte_of s b i (bytes i k) (λ j q. h.out (8 * i + j) (omega arith))
+    ∙ sym (get_or-tab (length b / 8) (byte_at b) i 0 (omega arith)))
 
 pub length-packed : (b : List ℕ) → length (packed b) ≡ length b / 8
 unfolding packed
 length-packed b = length-tab (length b / 8) (byte_at b)
 
 -- up to the end of the slice
-pub wrote-all : (old s : List ℕ) (w : BitWriter) (b : List ℕ) → ((i : ℕ) → get_or s i 0 < 256) → Wrote old s w b → w.held ≡ 0 → w.place ≡ length s → s ≡ packed b
-wrote-all old s w b bytes h none all =
-    let e : drop w.place old ≡ [] = sym h.kept ∙ rw all (drop-length s) in
-    wrote-packed old s w b bytes h none (omega arith) ∙ rw (e, append-nil)
+pub wrote-all : (old s : List ℕ) (place cache held : ℕ) (b : List ℕ) → ((i : ℕ) → get_or s i 0 < 256) → Wrote old s place cache held b → held ≡ 0 → place ≡ length s → s ≡ packed b
+wrote-all old s place cache held b bytes h none all =
+    sym (take_all place s (omega arith)) ∙ front old s place cache held b (λ i l. bytes i) h none (omega arith)
 
--- zeros up to a whole byte, then k bytes of them, up to the end
-module _ (s t : List ℕ) (w f : BitWriter) (room : Room s w 0) (a : Appends s t w f (zero_bits ((8 - w.held) % 8))) (whole : f.held ≡ 0) where
-  bits_left : 8 * w.place + w.held + (8 - w.held) % 8 ≡ 8 * f.place
-  bits_left = omega (arith, a.on, length-replicate {A = ℕ} ((8 - w.held) % 8) 0)
+-- from the start of a slice
+pub wrote_none : (s : List ℕ) → Wrote s s 0 0 0 []
+wrote_none s = record { held = record { long = refl; small = omega arith; each = λ j h. absurd (omega arith) }; out = λ k h. absurd (omega arith); kept = refl }
 
-  pub place-within : f.place ≤ length t
-  place-within = omega (arith, bits_left, a.long, room.few, room.room)
+pub fresh-wrote : (w : BitWriter) (s : List ℕ) → Fresh w s → Wrote s w.out.now w.place w.cache w.held []
+fresh-wrote w s h = rw (h.slice, h.none_out, h.empty, h.none_held) (wrote_none s)
 
-  module _ (u : List ℕ) (r : BitWriter) (k : ℕ) (all : k ≡ length t - f.place) (b : Appends t u f r (zero_bits (8 * k))) where
-    zeros-left : (x : List ℕ) → length x ≡ 8 * w.place + w.held → (8 - w.held) % 8 + 8 * k ≡ 8 * length s - length x
-    zeros-left x e = omega (arith, bits_left, place-within, a.long)
-
-    at-end : 8 * r.place + r.held ≡ 8 * length u
-    at-end = omega (arith, b.on, b.long, length-replicate {A = ℕ} (8 * k) 0, place-within)
-
-    pub filled-up : ((i : ℕ) → get_or u i 0 < 256) → (old x : List ℕ) → Wrote old s w x → u ≡ packed (x ++ zero_bits (8 * length s - length x))
-    filled-up bytes old x h =
-        let both = appends-both _ _ _ _ _ _ _ _ _ a b (replicate-append-replicate ((8 - w.held) % 8) (8 * k) 0) in
-        wrote-all old u r _ bytes (both.wrote old x h) (omega (arith, at-end, b.few)) (omega (arith, at-end, b.few))
-        ∙ ap (λ (j : ℕ). packed (x ++ zero_bits j)) (zeros-left x h.held.long)
+pub fresh-room : (w : BitWriter) (s : List ℕ) (n : ℕ) → Fresh w s → n ≤ 8 * length s → Room w n
+fresh-room w s n h l = record { few = omega (arith, h.none_held); small = rw (h.empty, h.none_held) (omega arith); room = rw h.slice (omega (arith, h.none_out, h.none_held)) }
 
 -- ---- bits behind whole bytes
 pub packed-append : (a b : List ℕ) → length a % 8 ≡ 0 → packed (a ++ b) ≡ packed a ++ packed b
@@ -108,3 +87,41 @@ pub packed-rows : (n : ℕ) (g : ℕ → List ℕ) → ((k : ℕ) → length (g 
 unfolding rows
 packed-rows zero g h = none-packed
 packed-rows (suc n) g h = packed-append (rows n g) (g n) (whole-rows n g h) ∙ ap (λ (x : List ℕ). x ++ packed (g n)) (packed-rows n g h)
+
+-- ---- zeros up to a whole byte, and then bytes of them up to the end
+zero-bit : (n i : ℕ) → get_or (zero_bits n) i 0 ≡ 0
+zero-bit n i = ⊎_elim (λ (l : n ≤ i). get_or-eq_default (zero_bits n) 0 (omega (arith, length-replicate {A = ℕ} n 0))) (λ (l : i < n). get_or-replicate n i 0 0 l) (le-or-lt n i)
+
+pub packed-zeros : (k : ℕ) → packed (zero_bits (8 * k)) ≡ replicate k 0
+unfolding packed
+packed-zeros k =
+    let n : length (zero_bits (8 * k)) / 8 ≡ k = omega (arith, length-replicate {A = ℕ} (8 * k) 0) in
+    ext_get_or 0 (packed (zero_bits (8 * k))) (replicate k 0) (length-packed (zero_bits (8 * k)) ∙ n ∙ sym (length-replicate k 0))
+    (λ i l.
+    let z = zero-bit (8 * k) in
+    let q : i < k = omega (arith, length-packed (zero_bits (8 * k)), n) in
+    get_or-tab (length (zero_bits (8 * k)) / 8) (byte_at (zero_bits (8 * k))) i 0 (omega arith)
+    ∙ rw (z (8 * i), z (8 * i + 1), z (8 * i + 2), z (8 * i + 3), z (8 * i + 4), z (8 * i + 5), z (8 * i + 6), z (8 * i + 7)) (sym (get_or-replicate k i 0 0 q)))
+
+module _ (w f : BitWriter) (room : Room w 0) (a : Appends w f (zero_bits ((8 - w.held) % 8))) (whole : f.held ≡ 0) where
+  bits_left : 8 * w.place + w.held + (8 - w.held) % 8 ≡ 8 * f.place
+  bits_left = omega (arith, a.on, length-replicate {A = ℕ} ((8 - w.held) % 8) 0)
+
+  pub place-within : f.place ≤ length f.out.now
+  place-within = omega (arith, bits_left, a.long, room.few, room.room)
+
+  pub filled-up : (u : List ℕ) → u ≡ take f.place f.out.now ++ replicate (length f.out.now - f.place) 0 → ((i : ℕ) → get_or u i 0 < 256)
+      → (old x : List ℕ) → Wrote old w.out.now w.place w.cache w.held x → u ≡ packed (x ++ zero_bits (8 * length w.out.now - length x))
+  filled-up u e bytes old x h =
+      let p = f.place in
+      let s = f.out.now in
+      let m = (8 - w.held) % 8 in
+      let k = length s - p in
+      let z = a.wrote old x h in
+      let n : m + 8 * k ≡ 8 * length w.out.now - length x = omega (arith, h.held.long, bits_left, place-within, a.long) in
+      let y : (x ++ zero_bits m) ++ zero_bits (8 * k) ≡ x ++ zero_bits (8 * length w.out.now - length x) =
+      append_assoc x (zero_bits m) (zero_bits (8 * k)) ∙ ap (λ (l : List ℕ). x ++ l) (replicate-append-replicate m (8 * k) 0 ∙ ap zero_bits n) in
+      let first : (i : ℕ) → i < p → get_or s i 0 < 256 =
+      λ i q. rw (← get_or-take p s i 0 q, ← get_or-append (take p s) (replicate k 0) 0 i (omega (arith, length-take-le p s place-within)), ← e) (bytes i) in
+      e ∙ rw (front old s p f.cache f.held (x ++ zero_bits m) first z whole place-within, ← packed-zeros k) refl
+      ∙ sym (packed-append (x ++ zero_bits m) (zero_bits (8 * k)) (omega (arith, z.held.long, whole))) ∙ ap packed y

@@ -1,8 +1,9 @@
 pub mod Widths
 pub mod Pushed
 pub mod Finished
-pub mod Sizes
 pub mod Runs
+pub mod Sizes
 pub mod Turns
 pub mod Progress
 pub mod Records
+pub mod Lengths

@@ -1,21 +1,12 @@
 -- Laws of the bits that a word holds: more of them, and the first eight out. Assumes nothing.
-use mathlib.Core.Path.{◌≡◌, refl, sym, ap, ◌∙◌}
-use mathlib.Core.List.{List, [], ◌∷◌, ◌++◌, append-nil, append_assoc}
-use mathlib.Core.Logic.{⊎_elim}
-use Prim.Native.Nat.{ℕ, zero, suc, ◌+◌, ◌-◌, ◌*◌, ◌/◌, ◌%◌, ◌^◌, ◌≤◌, ◌<◌}
-use native.Mathlib.Nat.{pow-suc, lt_of_lt_of_le, mul-le-mul_right, mod-lt, mul_assoc}
-use native.Mathlib.Numerals.{add-one}
-use native.Mathlib.Omega.{arith}
-use lib.ListN.{length, get_or, set, drop, length-append, get_or-append, replicate-append-replicate}
-use lib.Seq.{get_or-append-add, get_or-set_same, get_or-set_other, drop-set-lt, drop-drop}
-use lib.Pow.{pow-add, pow-lt, pow_mono, shr-shr, high, low, field, mod-mod-pow, pow_pos, shr_lt}
-use borrow.Author.Tests.{lt-ltb, le-ltb, eq-eqb, ne_eqb}
+use Rattle.std.proofs.Common.{◌≡◌, refl, sym, ap, ◌∙◌, List, [], ◌∷◌, ◌++◌, append-nil, append_assoc, ⊎_elim, ℕ, zero, suc, ◌+◌, ◌-◌, ◌*◌, ◌/◌, ◌%◌, ◌^◌, ◌≤◌, ◌<◌, pow-suc, mul-le-mul_right, mod-lt, mod-eq_of_lt, mul_assoc, add-one, arith, length, get_or, set, drop, length-append, get_or-append-add, get_or-set_same, get_or-set_other, drop-set-lt, drop-drop, pow-add, pow_mono, shr-shr, pow_pos, shr_lt, lt-ltb, le-ltb, eq-eqb, ne_eqb}
+use Rattle.std.proofs.Math.ListN.{get_or-append, replicate-append-replicate}
+use Rattle.std.proofs.Math.Pow.{pow-lt, high, low, field, mod-mod-pow}
 use Rattle.format.specs.Bits.{bit_at}
 use Rattle.format.proofs.BitLaws.{le-or-lt}
 use Rattle.format.specs.Writing.{number_bits, zero_bits, unary_bits, update_bits}
 use Rattle.encoding.proofs.Widths.{length-number}
-use Rattle.encoding.specs.Wrote.{fresh, Held, Wrote, Room, Appends}
-use Rattle.encoding.specs.declared.BitWriter.{BitWriter}
+use Rattle.encoding.specs.Wrote.{Held, Wrote}
 
 -- bit e of a number is that of its low m bits
 pub bit-low : (x m e : ℕ) → e < m → x % 2 ^ m / 2 ^ e % 2 ≡ x / 2 ^ e % 2
@@ -99,20 +90,20 @@ module _ (s : List ℕ) (c m p : ℕ) (b : List ℕ) (l : 8 ≤ m) (h : Held c m
       rw (get_or-set_other s p (k / 8) (c / 2 ^ (m - 8)) 0 other) (out k a))
       (le-or-lt (8 * p) k)
 
-pub wrote-out : (old s b : List ℕ) (w : BitWriter) (byte rest : ℕ) → 8 ≤ w.held → w.place < length s → byte ≡ w.cache / 2 ^ (w.held - 8) → rest ≡ w.cache % 2 ^ (w.held - 8)
-    → Wrote old s w b → Wrote old (set s w.place byte) (record { place = w.place + 1; cache = rest; held = w.held - 8 }) b
-wrote-out old s b w byte rest l room e r h =
+pub wrote-out : (old s b : List ℕ) (place cache held byte rest : ℕ) → 8 ≤ held → place < length s → byte ≡ cache / 2 ^ (held - 8) → rest ≡ cache % 2 ^ (held - 8)
+    → Wrote old s place cache held b → Wrote old (set s place byte) (place + 1) rest (held - 8) b
+wrote-out old s b place cache held byte rest l room e r h =
     record {
-      held = rw r (held-less w.cache w.held w.place b l h.held);
-      out = rw e (byte-out s w.cache w.held w.place b l h.held room h.out);
-      kept = drop-set-lt (w.place + 1) s w.place byte (omega arith) ∙ sym (drop-drop 1 w.place s) ∙ ap (drop 1) h.kept ∙ drop-drop 1 w.place old;
+      held = rw r (held-less cache held place b l h.held);
+      out = rw e (byte-out s cache held place b l h.held room h.out);
+      kept = drop-set-lt (place + 1) s place byte (omega arith) ∙ sym (drop-drop 1 place s) ∙ ap (drop 1) h.kept ∙ drop-drop 1 place old;
     }
 
-pub wrote-more : (old s b : List ℕ) (w : BitWriter) (n v c : ℕ) → v < 2 ^ n → c ≡ w.cache * 2 ^ n + v → Wrote old s w b
-    → Wrote old s (record { place = w.place; cache = c; held = w.held + n }) (b ++ number_bits n v)
-wrote-more old s b w n v c l e h =
+pub wrote-more : (old s b : List ℕ) (place cache held n v c : ℕ) → v < 2 ^ n → c ≡ cache * 2 ^ n + v → Wrote old s place cache held b
+    → Wrote old s place c (held + n) (b ++ number_bits n v)
+wrote-more old s b place cache held n v c l e h =
     record {
-      held = rw e (held_more w.cache w.held w.place n v b l h.held);
+      held = rw e (held_more cache held place n v b l h.held);
       out = λ k q. h.out k q ∙ sym (get_or-append b (number_bits n v) 0 k (omega (arith, h.held.long)));
       kept = h.kept;
     }
@@ -124,25 +115,17 @@ few_bits x n a b =
     let q : suc x * 2 ^ n ≤ 128 * 2 ^ n = mul-le-mul_right (2 ^ n) a in
     omega arith
 
-pub seven : (x m : ℕ) → m < 8 → x < 2 ^ m → x < 128
-seven x m a b = let l : m ≤ 7 = omega arith in lt_of_lt_of_le b (pow_mono l)
+-- v of n bits and w of m bits behind it, in a word
+pub record Behind (v n w m : ℕ) : Type 0 where
+  pub whole : v * 2 ^ m % 2 ^ 64 ≡ v * 2 ^ m
+  pub less : v * 2 ^ m + w < 2 ^ (n + m)
+  pub fits : v * 2 ^ m + w < 2 ^ 64
 
--- ---- one after the other
-pub appends-both : (s t u : List ℕ) (w r q : BitWriter) (x y z : List ℕ) → Appends s t w r x → Appends t u r q y → x ++ y ≡ z → Appends s u w q z
-appends-both s t u w r q x y z h k e =
-    record {
-      few = k.few;
-      small = k.small;
-      on = rw (← e) (k.on ∙ omega (arith, h.on, length-append x y));
-      long = k.long ∙ h.long;
-      wrote = λ old b a. rw (← e, ← append_assoc b x y) (k.wrote old (b ++ x) (h.wrote old b a));
-    }
-
-pub appends-same : (s t : List ℕ) (w r : BitWriter) (x z : List ℕ) → x ≡ z → Appends s t w r x → Appends s t w r z
-appends-same s t w r x z e h = rw (← e) h
-
-pub room_after : (s t : List ℕ) (w r : BitWriter) (x : List ℕ) (n k : ℕ) → Room s w n → Appends s t w r x → length x + k ≤ n → Room t r k
-room_after s t w r x n k a h l = record { few = h.few; small = h.small; room = omega (arith, a.room, h.on, h.long) }
+pub behind : (v n w m : ℕ) → v < 2 ^ n → w < 2 ^ m → n + m ≤ 63 → Behind v n w m
+behind v n w m a b c =
+    let l = joined-lt v n m w a b in
+    let p : 2 ^ (n + m) ≤ 2 ^ 63 = pow_mono c in
+    record { whole = mod-eq_of_lt (omega arith); less = l; fits = omega arith }
 
 -- ---- zeros and unaries are numbers
 pub number-zeros : (n : ℕ) → number_bits n 0 ≡ zero_bits n
@@ -173,8 +156,9 @@ number-join n u (suc m) v l =
 pub two-more : (n : ℕ) → 0 < n → 1 < 2 ^ n
 two-more n h = pow-lt h
 
-opens : (n v : ℕ) (x y : List ℕ) → number_bits n v ≡ x → number_bits n v ++ y ≡ x ++ y
-opens n v x y e = ap (λ (z : List ℕ). z ++ y) e
+-- ---- the four forms of a width update
+opens : (n v : ℕ) (x y : List ℕ) → number_bits n v ≡ x → x ++ y ≡ number_bits n v ++ y
+opens n v x y e = ap (λ (z : List ℕ). z ++ y) (sym e)
 
 ten : number_bits 2 2 ≡ 1 ∷ 0 ∷ []
 unfolding number_bits
@@ -184,42 +168,19 @@ eleven : number_bits 2 3 ≡ 1 ∷ 1 ∷ []
 unfolding number_bits
 eleven = refl
 
--- ---- the four forms of a width update
 module _ (a b : ℕ) where
-  pub code-kept : a ≡ b → number_bits 1 0 ≡ update_bits a b
-  unfolding update_bits number_bits
-  code-kept e = rw (eq-eqb a b e)
-
-  pub code-grown : a < b → number_bits (2 + (b - a)) (2 * 2 ^ (b - a) + 1) ≡ update_bits a b
+  pub update-kept : a ≡ b → update_bits a b ≡ zero_bits 1
   unfolding update_bits
-  code-grown h =
-      let one : 1 < 2 ^ (b - a) = two-more (b - a) (omega arith) in
-      rw (ne_eqb a b (λ e. omega arith), lt-ltb a b h, number-join 2 2 (b - a) 1 one, number-unary (b - a) (omega arith)) (opens 2 2 (1 ∷ 0 ∷ []) (unary_bits (b - a)) ten)
+  update-kept e = rw (eq-eqb a b e)
 
-  pub code-gone : b < a → b ≡ 0 → number_bits (2 + (a - 1)) (3 * 2 ^ (a - 1) + 0) ≡ update_bits a b
+  pub update-grown : a < b → update_bits a b ≡ number_bits 2 2 ++ unary_bits (b - a)
   unfolding update_bits
-  code-gone h z =
-      rw (ne_eqb a b (λ e. omega arith), le-ltb a b (omega arith), eq-eqb b 0 z, number-join 2 3 (a - 1) 0 (pow_pos (a - 1)), number-zeros (a - 1)) (opens 2 3 (1 ∷ 1 ∷ []) (zero_bits (a - 1)) eleven)
+  update-grown h = rw (ne_eqb a b (λ e. omega arith), lt-ltb a b h) (opens 2 2 (1 ∷ 0 ∷ []) (unary_bits (b - a)) ten)
 
-  pub code-shrunk : b < a → (b ≡ 0 → ⊥) → number_bits (2 + (a - b)) (3 * 2 ^ (a - b) + 1) ≡ update_bits a b
+  pub update-gone : b < a → b ≡ 0 → update_bits a b ≡ number_bits 2 3 ++ zero_bits (a - 1)
   unfolding update_bits
-  code-shrunk h z =
-      let one : 1 < 2 ^ (a - b) = two-more (a - b) (omega arith) in
-      rw (ne_eqb a b (λ e. omega arith), le-ltb a b (omega arith), ne_eqb b 0 z, number-join 2 3 (a - b) 1 one, number-unary (a - b) (omega arith)) (opens 2 3 (1 ∷ 1 ∷ []) (unary_bits (a - b)) eleven)
+  update-gone h z = rw (ne_eqb a b (λ e. omega arith), le-ltb a b (omega arith), eq-eqb b 0 z) (opens 2 3 (1 ∷ 1 ∷ []) (zero_bits (a - 1)) eleven)
 
-pub room-less : (s : List ℕ) (w : BitWriter) (n k : ℕ) → Room s w n → k ≤ n → Room s w k
-room-less s w n k h l = record { few = h.few; small = h.small; room = omega (arith, h.room) }
-
--- ---- from the start of a slice
-pub wrote_none : (s : List ℕ) → Wrote s s fresh []
-wrote_none s = record { held = record { long = refl; small = omega arith; each = λ j h. absurd (omega arith) }; out = λ k h. absurd (omega arith); kept = refl }
-
-pub room-fresh : (s : List ℕ) (n : ℕ) → n ≤ 8 * length s → Room s fresh n
-room-fresh s n h = record { few = omega arith; small = omega arith; room = omega arith }
-
--- ---- number by number
-pub room-first : (s : List ℕ) (w : BitWriter) (n k : ℕ) → Room s w (n + k) → Room s w n
-room-first s w n k h = room-less s w (n + k) n h (omega arith)
-
-pub room_next : (s t : List ℕ) (w r : BitWriter) (n v k : ℕ) → Room s w (n + k) → Appends s t w r (number_bits n v) → Room t r k
-room_next s t w r n v k h a = room_after s t w r (number_bits n v) (n + k) k h a (omega (arith, length-number n v))
+  pub update-shrunk : b < a → (b ≡ 0 → ⊥) → update_bits a b ≡ number_bits 2 3 ++ unary_bits (a - b)
+  unfolding update_bits
+  update-shrunk h z = rw (ne_eqb a b (λ e. omega arith), le-ltb a b (omega arith), ne_eqb b 0 z) (opens 2 3 (1 ∷ 1 ∷ []) (unary_bits (a - b)) eleven)

@@ -1,15 +1,8 @@
 -- Laws of a record's numbers in a list. Assumes nothing.
-use mathlib.Core.Path.{◌≡◌, refl, sym, ap, ◌∙◌}
-use mathlib.Core.List.{List, [], ◌++◌}
-use mathlib.Core.Bool.{Bool, true, false, cond}
-use mathlib.Core.Logic.{⊎_elim, ◌⊎◌, inl, inr}
-use Prim.Native.Nat.{ℕ, zero, suc, ◌+◌, ◌-◌, ◌*◌, ◌/◌, ◌%◌, ◌≤◌, ◌<◌}
-use native.Mathlib.Nat.{mul-le-mul_right, eq-or-lt_of_le, le_of_suc-le-suc}
-use native.Mathlib.Omega.{arith}
-use lib.IntN.{ℤ, pos, nat_abs}
-use lib.ListN.{length, get_or, take, drop, length-append, length-replicate, length-take, get_or-eq_default}
-use lib.Dec.{eqb, ltb}
-use borrow.Author.Tests.{eq-eqb, ne_eqb, ltb-true}
+use Rattle.std.proofs.Common.{◌≡◌, refl, sym, ap, ◌∙◌, List, [], ◌++◌, Bool, true, false, cond, ⊎_elim, ◌⊎◌, inl, inr, ℕ, zero, suc, ◌+◌, ◌-◌, ◌*◌, ◌/◌, ◌%◌, ◌≤◌, ◌<◌, mul-le-mul_right, eq-or-lt_of_le, le_of_suc-le-suc, arith, ℤ, pos, negsuc, nat_abs, length, get_or, take, drop, length-append, length-take, eqb, ltb, eq-eqb, ne_eqb, ltb-true}
+use Rattle.std.proofs.Math.ListN.{length-replicate, get_or-eq_default}
+use Rattle.std.specs.Bool.{MatchBool}
+use Rattle.std.specs.List.{AllWithin, HoldsAt}
 use Rattle.lists.specs.Lists.{rows, row}
 use Rattle.lists.proofs.Tab.{get_d_part, length_part}
 use Rattle.format.specs.Lifting.{Signal, Plane}
@@ -21,7 +14,7 @@ use Rattle.encoding.specs.Wrote.{Small, Appends, line}
 use Rattle.encoding.specs.Record.{total, rows_in, record_in}
 use Rattle.encoding.specs.declared.BitWriter.{BitWriter}
 use Rattle.format.proofs.TurnLaws.{sum_same}
-use Rattle.encoding.proofs.Pushed.{appends-both}
+use Rattle.encoding.specs.Laws.{appends-both}
 
 -- ---- sums
 pub sum-add : (f : ℕ → ℕ) (a b : ℕ) → sum f (a + b) ≡ sum f a + sum (λ k. f (a + k)) b
@@ -46,6 +39,16 @@ sum-some f (suc n) k l = by (eq-or-lt_of_le (le_of_suc-le-suc l)) (λ q. sum-som
     by (inl q) h = rw q (omega arith)
     by (inr q) h = omega (arith, h q)
 
+sum-zeros : (f : ℕ → ℕ) (n : ℕ) → ((k : ℕ) → k < n → f k ≡ 0) → sum f n ≡ 0
+unfolding sum
+sum-zeros f zero h = refl
+sum-zeros f (suc n) h = omega (arith, sum-zeros f n (λ k l. h k (omega arith)), h n (omega arith))
+
+size-none : (z : ℤ) → nat_abs z ≡ 0 → z ≡ pos 0
+size-none (pos zero) e = refl
+size-none (pos (suc n)) e = absurd (omega arith)
+size-none (negsuc n) e = absurd (omega arith)
+
 pub none_in : (l : List ℤ) → sum (λ x. nat_abs (line l x)) (length l) ≡ 0 → true ≡ eqb (total l) 0
 unfolding total
 none_in l e = sym (eq-eqb _ 0 e)
@@ -53,6 +56,11 @@ none_in l e = sym (eq-eqb _ 0 e)
 pub some_in : (l : List ℤ) (x : ℕ) → x < length l → (nat_abs (line l x) ≡ 0 → ⊥) → false ≡ eqb (total l) 0
 unfolding total
 some_in l x h e = let f : ℕ → ℕ = λ x. nat_abs (line l x) in sym (ne_eqb (sum f (length l)) 0 (λ q. e (omega (arith, q, sum-some f (length l) x h))))
+
+-- all numbers are 0, or one is not
+pub zero_in : (r : Bool) (l : List ℤ) → MatchBool r (AllWithin (λ z. z ≡ pos 0) l 0 (length l)) ((k : ℕ) × (k < length l) × HoldsAt (λ z. z ≡ pos 0 → ⊥) l k) → r ≡ eqb (total l) 0
+zero_in true l h = none_in l (sum-zeros (λ x. nat_abs (line l x)) (length l) (λ k q. ap nat_abs (h k (pos 0) (omega arith) q)))
+zero_in false l h = some_in l h.0 h.1 (λ z. h.2 (pos 0) (size-none _ z))
 
 -- ---- rows of a list
 pub row_at : (cols : ℕ) (l : List ℤ) (q x : ℕ) → x < cols → line (row cols l q) x ≡ line l (q * cols + x)
@@ -144,8 +152,8 @@ pub length-filled : (b : List ℕ) → length (filled 8 b) ≡ 8 * units 8 b
 unfolding filled
 length-filled b = length-append b (zero_bits (units 8 b * 8 - length b)) ∙ omega (arith, length-replicate {A = ℕ} (units 8 b * 8 - length b) 0)
 
-pub appends-filled : (s t u : List ℕ) (w r q : BitWriter) (x : List ℕ) → w.held ≡ 0 → Appends s t w r x → Appends t u r q (zero_bits ((8 - r.held) % 8)) → Appends s u w q (filled 8 x)
+pub appends-filled : (w r q : BitWriter) (x : List ℕ) → w.held ≡ 0 → Appends w r x → Appends r q (zero_bits ((8 - r.held) % 8)) → Appends w q (filled 8 x)
 unfolding filled
-appends-filled s t u w r q x none h k =
+appends-filled w r q x none h k =
     let e : (8 - r.held) % 8 ≡ units 8 x * 8 - length x = omega (arith, none, h.on, h.few) in
-    appends-both s t u w r q x _ _ h k (ap (λ (n : ℕ). x ++ zero_bits n) e)
+    rw (← e) (appends-both w r q x _ h k)

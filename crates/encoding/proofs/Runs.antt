@@ -1,16 +1,10 @@
 -- Laws of zero groups and of the code of a run. Assumes nothing.
-use mathlib.Core.Path.{◌≡◌, refl, sym, ap, ◌∙◌}
-use mathlib.Core.List.{List, ◌++◌}
-use Prim.Native.Nat.{ℕ, zero, suc, ◌+◌, ◌-◌, ◌*◌, ◌^◌, ◌≤◌, ◌<◌}
-use native.Mathlib.Nat.{pow-suc, lt_of_lt_of_le}
-use native.Mathlib.Omega.{arith}
-use lib.Pow.{pow_mono}
-use borrow.Author.Tests.{eq-eqb, ne_eqb}
+use Rattle.std.proofs.Common.{◌≡◌, refl, sym, ap, ◌∙◌, List, ◌++◌, ℕ, zero, suc, ◌+◌, ◌-◌, ◌*◌, ◌^◌, ◌≤◌, ◌<◌, pow-suc, lt_of_lt_of_le, arith, pow_mono, eq-eqb, ne_eqb}
 use Rattle.format.specs.Lifting.{Signal}
 use Rattle.format.specs.Reader.{bit_length}
-use Rattle.format.specs.Writing.{number_bits, unary_bits, run_bits, group_width, zero_groups}
+use Rattle.format.specs.Writing.{number_bits, zero_bits, unary_bits, run_bits, group_width, zero_groups}
 use Rattle.encoding.proofs.Widths.{under-length, length-under, length_most, length_some}
-use Rattle.encoding.proofs.Pushed.{number-zeros, number-unary, number-join}
+use Rattle.encoding.proofs.Pushed.{number-unary, number-join}
 
 -- ---- zero groups, one by one
 module _ (f : Signal) where
@@ -37,9 +31,9 @@ module _ (f : Signal) where
       e ∙ omega (arith, m ∙ (λ i. suc (zero_groups f (a i) (b i))))
 
 -- ---- the code of a run
-pub code-whole : (g k : ℕ) → k ≡ g → number_bits (bit_length (g - 1)) 0 ≡ run_bits g k
+pub code-whole : (g k : ℕ) → k ≡ g → zero_bits (bit_length (g - 1)) ≡ run_bits g k
 unfolding run_bits
-code-whole g k e = rw (eq-eqb k g e) (number-zeros (bit_length (g - 1)))
+code-whole g k e = rw (eq-eqb k g e) refl
 
 pub code-part : (g k : ℕ) → 0 < k → k < g → g < 2 ^ 16 → number_bits (bit_length k - 1 + 1 + (bit_length k - 1)) k ≡ run_bits g k
 unfolding run_bits

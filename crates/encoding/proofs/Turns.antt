@@ -1,14 +1,7 @@
 -- Laws of a row's turns: the bits of the groups that are left are those of one turn, and the rest. Assumes nothing.
-use mathlib.Core.Path.{◌≡◌, refl, sym, ap, ◌∙◌}
-use mathlib.Core.List.{List, [], ◌++◌, append-nil, append_assoc}
-use mathlib.Core.Bool.{Bool, true, false, cond}
-use Prim.Native.Nat.{ℕ, zero, suc, ◌+◌, ◌-◌, ◌*◌, ◌/◌, ◌≤◌, ◌<◌}
-use native.Mathlib.Omega.{arith}
-use lib.IntN.{ℤ, pos, nat_abs}
-use lib.ListN.{length, length-append, get_or-eq_default}
-use lib.Dec.{eqb, ltb}
-use borrow.Author.Tests.{eq-eqb, ne_eqb, eqb-true, ltb-false, le-leb, lt-leb}
-use mathlib.Core.Logic.{⊎_elim}
+use Rattle.std.proofs.Common.{◌≡◌, refl, sym, ap, ◌∙◌, List, [], ◌++◌, append-nil, append_assoc, Bool, true, false, cond, ℕ, zero, suc, ◌+◌, ◌-◌, ◌*◌, ◌/◌, ◌≤◌, ◌<◌, arith, ℤ, pos, nat_abs, length, length-append, eqb, ltb, eq-eqb, ne_eqb, eqb-true, ltb-false, le-leb, ⊎_elim}
+use Rattle.std.proofs.Math.ListN.{get_or-eq_default}
+use borrow.Author.Tests.{lt-leb}
 use Rattle.wrap32.proofs.Laws.{of-cond}
 use Rattle.format.proofs.BitLaws.{le-or-lt}
 use Rattle.format.specs.Lifting.{Signal}

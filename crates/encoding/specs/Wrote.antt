@@ -3,10 +3,7 @@ use Rattle.std.specs.Prelude.{◌≡◌, List, ◌++◌, ℕ, ◌+◌, ◌-◌, 
 use Rattle.format.specs.Lifting.{Signal}
 use Rattle.format.specs.Bits.{bit_at}
 use Rattle.encoding.specs.declared.BitWriter.{BitWriter}
-
--- nothing is written yet
-abbrev pub fresh : BitWriter
-fresh = record { place = 0; cache = 0; held = 0 }
+use Rattle.encoding.specs.declared.Count.{Count}
 
 -- the bits that are held are those of b from place 8 · place on
 pub record Held (cache held place : ℕ) (b : List ℕ) : Type 0 where
@@ -14,25 +11,40 @@ pub record Held (cache held place : ℕ) (b : List ℕ) : Type 0 where
   pub small : cache < 2 ^ held
   pub each : (j : ℕ) → j < held → cache / 2 ^ (held - 1 - j) % 2 ≡ get_or b (8 * place + j) 0
 
--- the bytes before `place` hold b, and those from there on are as they were in `old`
-pub record Wrote (old s : List ℕ) (w : BitWriter) (b : List ℕ) : Type 0 where
-  pub held : Held w.cache w.held w.place b
-  pub out : (k : ℕ) → k < 8 * w.place → bit_at s k ≡ get_or b k 0
-  pub kept : drop w.place s ≡ drop w.place old
+-- the bytes of s before `place`, and behind them `count` bits of `cache`, hold b; the bytes from there on are as they were in `old`
+pub record Wrote (old s : List ℕ) (place cache count : ℕ) (b : List ℕ) : Type 0 where
+  pub held : Held cache count place b
+  pub out : (k : ℕ) → k < 8 * place → bit_at s k ≡ get_or b k 0
+  pub kept : drop place s ≡ drop place old
+
+-- nothing is written yet
+pub record Fresh (w : BitWriter) (s : List ℕ) : Type 0 where
+  pub none_out : w.place ≡ 0
+  pub none_held : w.held ≡ 0
+  pub empty : w.cache ≡ 0
+  pub slice : w.out.now ≡ s
 
 -- a writer between two calls, with room for n bits more
-pub record Room (s : List ℕ) (w : BitWriter) (n : ℕ) : Type 0 where
+pub record Room (w : BitWriter) (n : ℕ) : Type 0 where
   pub few : w.held < 8
   pub small : w.cache < 2 ^ w.held
-  pub room : 8 * w.place + w.held + n ≤ 8 * length s
+  pub room : 8 * w.place + w.held + n ≤ 8 * length w.out.now
 
--- from s and w to t and r the bits x were written, whatever was written before
-pub record Appends (s t : List ℕ) (w r : BitWriter) (x : List ℕ) : Type 0 where
+-- from w to r the bits x were written, whatever was written before
+pub record Appends (w r : BitWriter) (x : List ℕ) : Type 0 where
+  pub same : r.out.ghost_name ≡ w.out.ghost_name
   pub few : r.held < 8
   pub small : r.cache < 2 ^ r.held
   pub on : 8 * r.place + r.held ≡ 8 * w.place + w.held + length x
-  pub long : length t ≡ length s
-  pub wrote : (old b : List ℕ) → Wrote old s w b → Wrote old t r (b ++ x)
+  pub long : length r.out.now ≡ length w.out.now
+  pub wrote : (old b : List ℕ) → Wrote old w.out.now w.place w.cache w.held b → Wrote old r.out.now r.place r.cache r.held (b ++ x)
+
+-- from a count to the next the bits x were counted; a count with room for n bits more
+pub record Counts (w r : Count) (x : List ℕ) : Type 0 where
+  pub on : r.bits ≡ w.bits + length x
+
+pub record CountRoom (w : Count) (n : ℕ) : Type 0 where
+  pub room : w.bits + n < 2 ^ 64
 
 -- a row as a signal: 0 past its end
 abbrev pub line : List ℤ → Signal

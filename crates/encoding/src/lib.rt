@@ -1,60 +1,120 @@
-// The bits of what is written: a bit writer by value, the codes of a row, rows and records. Document 02, Job 2; document 01, 'Coefficients'.
+// The bits of what is written: codes, what takes them, a bit writer over a slice and a count of bits, rows and records. Document 02, Job 2;
+// document 01, 'Coefficients'.
 #![tactic(auto)]
 
-ghost use Rattle.std.specs.Prelude.{◌≡◌, List, ◌++◌, ℕ, ◌+◌, ◌-◌, ◌*◌, ◌/◌, ◌%◌, ◌^◌, ◌<◌, ◌≤◌, max, length, get_or, pos, nat_abs, eqb};
-ghost use Rattle.format.specs.Writing.{number_bits, update_bits, run_bits, group_width, zero_groups, value_bits, sign_bits, signs_bits, next_bits, row_bits, zero_bits, units, filled, packed};
-ghost use Rattle.encoding.specs.Wrote.{fresh, Wrote, Room, Appends, line, Small};
+ghost use Rattle.std.specs.Prelude.{◌≡◌, List, [], ◌++◌, ℕ, ◌+◌, ◌-◌, ◌*◌, ◌/◌, ◌%◌, ◌^◌, ◌<◌, ◌≤◌, length, nat_abs, eqb};
+ghost use Rattle.format.specs.Writing.{number_bits, update_bits, run_bits, unary_bits, group_width, zero_groups, value_bits, sign_bits, signs_bits, next_bits, row_bits, zero_bits, units, filled, packed};
+ghost use Rattle.encoding.specs.Wrote.{Wrote, Room, Appends, Counts, CountRoom, Fresh, line, Small};
 ghost use Rattle.encoding.specs.Record.{total, rows_in, record_in};
 ghost use Rattle.encoding.specs.Turn.{run_tail, turn_groups, tail_bits};
+ghost use Rattle.encoding.specs.Laws.{appends-none, appends-both, room_after, counts-none, counts-both, counts-after};
 
 use bits::bit_length;
 
-// 2 to the n.
-fn power(n: u64) -> u64
-    requires { n < 64 }
-    ensures { (result ≡ 2 ^ n) × (1 ≤ result) }
-{
-    1u64 << n
-}
-
-// What stands above the last n bits of x: a byte.
-fn high_byte(x: u64, n: u64) -> u8
-    requires { (n < 64) × (x / 2 ^ n < 256) }
-    ensures { result ≡ x / 2 ^ n }
-{
-    (x >> n) as u8
-}
-
-// The last n bits of x.
-fn low_bits(x: u64, n: u64) -> u64
-    requires { n < 64 }
-    ensures { result ≡ x % 2 ^ n }
-{
-    x % power(n)
-}
-
-// x, and n bits of v behind it.
-fn joined(x: u64, n: u64, v: u64) -> u64
-    requires { (n ≤ 56) × (x < 128) × (v < 2 ^ n) }
-    ensures { result ≡ x * 2 ^ n + v }
-{
-    x * power(n) + v
-}
-
-// The bytes that are out, the bits that are not, the last the least significant, and how many those are.
+// Bits to be written: the last n of v.
 #[derive(Clone, Copy)]
-pub struct BitWriter {
+pub struct Code {
+    pub n: u64,
+    pub v: u64,
+    ghost short: { n ≤ 56 },
+    ghost fits: { v < 2 ^ n },
+}
+
+impl Code {
+    // v in n bits.
+    pub fn new(n: u64, v: u64) -> Code
+        requires { (n ≤ 56) × (v < 2 ^ n) }
+        ensures { (result.n ≡ n) × (result.v ≡ v) }
+    {
+        Code { n, v }
+    }
+
+    // n zeros.
+    pub fn zeros(n: u64) -> Code
+        requires { n ≤ 56 }
+        ensures { (result.n ≡ n) × (number_bits result.n result.v ≡ zero_bits n) }
+    {
+        Code { n, v: 0 }
+    }
+
+    // k - 1 zeros and a one.
+    fn unary(k: u64) -> Code
+        requires { (1 ≤ k) × (k ≤ 56) }
+        ensures { (result.n ≡ k) × (number_bits result.n result.v ≡ unary_bits k) }
+    {
+        Code { n: k, v: 1 }
+    }
+
+    // One code behind another.
+    pub fn then(self, b: Code) -> Code
+        requires { self.n + b.n ≤ 56 }
+        ensures { (result.n ≡ self.n + b.n) × (number_bits result.n result.v ≡ number_bits self.n self.v ++ number_bits b.n b.v) }
+    {
+        Code {
+            n: self.n + b.n,
+            v: (self.v << b.n) + b.v,
+        }
+    }
+}
+
+// What takes codes: a writer, or a count of their bits.
+pub trait Sink {
+    // From one state to the next these bits were taken.
+    ghost Takes: { Self → Self → List ℕ → Type 0 };
+
+    // So many can be taken.
+    ghost CanTake: { Self → ℕ → Type 0 };
+
+    // Takes a code.
+    fn put(&mut self, c: Code)
+        requires { CanTake self.old c.n }
+        ensures { Takes self.old self.new (number_bits c.n c.v) };
+
+    // To take nothing changes nothing; what is taken in turn is taken as one; and what was not taken yet can still be.
+    ghost takes_none: { (s : Self) (n : ℕ) → CanTake s n → Takes s s [] };
+
+    ghost takes_both: { (s t u : Self) (x y : List ℕ) → Takes s t x → Takes t u y → Takes s u (x ++ y) };
+
+    ghost can_after: { (s t : Self) (x : List ℕ) (n k : ℕ) → CanTake s n → Takes s t x → length x + k ≤ n → CanTake t k };
+}
+
+// The slice, the bytes that are out, the bits that are not, the last the least significant, and how many those are.
+#[derive(Drop)]
+pub struct BitWriter<'a> {
+    pub out: &'a mut [u8],
     pub place: usize,
     pub cache: u64,
     pub held: u64,
 }
 
-impl BitWriter {
+impl Sink for BitWriter<'_> {
+    ghost Takes = { Appends };
+
+    ghost CanTake = { Room };
+
+    ghost takes_none = { appends-none };
+
+    ghost takes_both = { appends-both };
+
+    ghost can_after = { room_after };
+
+    fn put(&mut self, c: Code) {
+        self.cache = (self.cache << c.n) + c.v;
+        self.held += c.n;
+        while 8 <= self.held {
+            self.out_byte();
+        }
+    }
+}
+
+impl<'a> BitWriter<'a> {
     // A writer at the start of a slice.
-    pub fn new() -> BitWriter
-        ensures { result ≡ fresh }
+    pub fn new(out: &'a mut [u8]) -> BitWriter<'a>
+        ensures same { result.out.ghost_name ≡ out.entry.ghost_name }
+        ensures fresh { Fresh result out.old }
     {
         BitWriter {
+            out,
             place: 0,
             cache: 0,
             held: 0,
@@ -62,406 +122,291 @@ impl BitWriter {
     }
 
     // The first eight bits that are held go out.
-    fn out_byte(self, out: &mut [u8]) -> BitWriter
-        requires { (8 ≤ self.held) × (self.held < 64) × (self.cache < 2 ^ self.held) × (self.place < length out.old) }
-        ensures place { (result.place ≡ self.place + 1) × (result.held + 8 ≡ self.held) × (result.cache < 2 ^ result.held) × (length out.new ≡ length out.old) }
-        ensures wrote { (old b : List ℕ) → Wrote old out.old self b → Wrote old out.new result b }
+    fn out_byte(&mut self)
+        requires { (8 ≤ self.old.held) × (self.old.held < 64) × (self.old.cache < 2 ^ self.old.held) × (self.old.place < length self.old.out.now) }
+        ensures same { self.new.out.ghost_name ≡ self.old.out.ghost_name }
+        ensures place { (self.new.place ≡ self.old.place + 1) × (self.new.held + 8 ≡ self.old.held) × (self.new.cache < 2 ^ self.new.held) × (length self.new.out.now ≡ length self.old.out.now) }
+        ensures wrote { (old b : List ℕ) → Wrote old self.old.out.now self.old.place self.old.cache self.old.held b → Wrote old self.new.out.now self.new.place self.new.cache self.new.held b }
     {
+        self.held -= 8;
         let at = self.place;
-        let rest = self.held - 8;
-        out[at] = high_byte(self.cache, rest);
-        BitWriter {
-            place: at + 1,
-            cache: low_bits(self.cache, rest),
-            held: rest,
-        }
-    }
-
-    // Writes the last n bits of v.
-    pub fn put(self, out: &mut [u8], n: u64, v: u64) -> BitWriter
-        requires { (n ≤ 56) × (v < 2 ^ n) × Room out.old self n }
-        ensures { Appends out.old out.new self result (number_bits n v) }
-    {
-        let mut w = BitWriter {
-            place: self.place,
-            cache: joined(self.cache, n, v),
-            held: self.held + n,
-        };
-        while 8 <= w.held {
-            w = w.out_byte(out);
-        }
-        w
+        self.out[at] = (self.cache >> self.held) as u8;
+        self.cache %= 1 << self.held;
+        self.place = at + 1;
     }
 
     // Zeros up to a whole byte.
-    pub fn finish(self, out: &mut [u8]) -> BitWriter
-        requires { Room out.old self 0 }
-        ensures appends { Appends out.old out.new self result (zero_bits ((8 - self.held) % 8)) }
-        ensures none_held { result.held ≡ 0 }
+    pub fn finish(&mut self)
+        requires { Room self.old 0 }
+        ensures appends { Appends self.old self.new (zero_bits ((8 - self.old.held) % 8)) }
+        ensures none_held { self.new.held ≡ 0 }
     {
-        self.put(out, (8 - self.held) % 8, 0)
+        self.put(Code::zeros((8 - self.held) % 8));
+    }
+
+    // Zeros up to the end.
+    pub fn fill_up(&mut self)
+        requires { Room self.old 0 }
+        ensures same { self.new.out.ghost_name ≡ self.old.out.ghost_name }
+        ensures filled { (old x : List ℕ) → Wrote old self.old.out.now self.old.place self.old.cache self.old.held x → self.new.out.now ≡ packed (x ++ zero_bits (8 * length self.old.out.now - length x)) }
+    {
+        self.finish();
+        let place = self.place;
+        self.out[place..].fill(0);
     }
 }
 
-// Bits to be written: the last n of v.
+// A count of bits.
 #[derive(Clone, Copy)]
-pub struct Code {
-    pub n: u64,
-    pub v: u64,
+struct Count {
+    bits: u64,
+}
+
+impl Sink for Count {
+    ghost Takes = { Counts };
+
+    ghost CanTake = { CountRoom };
+
+    ghost takes_none = { counts-none };
+
+    ghost takes_both = { counts-both };
+
+    ghost can_after = { counts-after };
+
+    fn put(&mut self, c: Code) {
+        self.bits += c.n;
+    }
 }
 
 // The width update from a to b.
 fn update_code(a: u64, b: u64) -> Code
     requires { (a ≤ 32) × (b ≤ 32) }
-    ensures bits { number_bits result.n result.v ≡ update_bits a b }
-    ensures size { (result.n ≤ 40) × (result.v < 2 ^ result.n) }
+    ensures { (number_bits result.n result.v ≡ update_bits a b) × (result.n ≤ 40) }
 {
     if a == b {
-        return Code { n: 1, v: 0 };
+        return Code::zeros(1);
     }
     if a < b {
-        return Code {
-            n: 2 + (b - a),
-            v: joined(2, b - a, 1),
-        };
+        return Code::new(2, 2).then(Code::unary(b - a));
     }
     if b == 0 {
-        return Code {
-            n: 2 + (a - 1),
-            v: joined(3, a - 1, 0),
-        };
+        return Code::new(2, 3).then(Code::zeros(a - 1));
     }
-    Code {
-        n: 2 + (a - b),
-        v: joined(3, a - b, 1),
-    }
-}
-
-// How far z is from 0.
-fn magnitude(z: i32) -> u64
-    ensures { (result ≡ nat_abs z) × (result ≤ 2 ^ 31) }
-{
-    let wide = z as i64;
-    if wide < 0 {
-        (0 - wide) as u64
-    } else {
-        wide as u64
-    }
-}
-
-// The number at x of a row, 0 past its end.
-fn at(row: &[i32], x: usize) -> u64
-    ensures { (result ≡ nat_abs (get_or row.now x (pos 0))) × (result ≤ 2 ^ 31) }
-{
-    if x < row.len() { magnitude(row[x]) } else { 0 }
-}
-
-// The greater of two numbers.
-fn most(a: u64, b: u64) -> u64
-    ensures { result ≡ max a b }
-{
-    if a < b { b } else { a }
-}
-
-// The smallest width that holds the four magnitudes of group j.
-fn width_of(row: &[i32], j: usize) -> u64
-    requires { j < 2 ^ 32 }
-    ensures { (result ≡ group_width (λ x. get_or row.now x (pos 0)) j) × (result ≤ 64) }
-{
-    let x = 4 * j;
-    let m = most(
-        most(at(row, x), at(row, x + 1)),
-        most(at(row, x + 2), at(row, x + 3)),
-    );
-    64 - (u64::leading_zeros(m) as u64)
-}
-
-// The zero groups from group j on, at most g.
-fn zero_groups(row: &[i32], j: usize, g: usize) -> usize
-    requires { j + g < 2 ^ 32 }
-    ensures { (result ≡ zero_groups (λ x. get_or row.now x (pos 0)) j g) × (result ≤ g) }
-{
-    let mut k = 0;
-    while k < g {
-        if width_of(row, j + k) != 0 {
-            return k;
-        }
-        k += 1;
-    }
-    g
+    Code::new(2, 3).then(Code::unary(a - b))
 }
 
 // A zero run of k groups, where g are left. Up to its end a run that goes on is the number k itself, after as many zeros.
 fn run_code(g: u64, k: u64) -> Code
     requires { (1 ≤ k) × (k ≤ g) × (g < 2 ^ 16) }
-    ensures bits { number_bits result.n result.v ≡ run_bits g k }
-    ensures size { (result.n ≤ 32) × (result.v < 2 ^ result.n) }
+    ensures { (number_bits result.n result.v ≡ run_bits g k) × (result.n ≤ 32) }
 {
     if k == g {
-        return Code {
-            n: bit_length(g - 1),
-            v: 0,
-        };
+        return Code::zeros(bit_length(g - 1));
     }
     let z = bit_length(k) - 1;
-    Code { n: z + 1 + z, v: k }
-}
-
-// Writes the four magnitudes of group j, in width w, one by one.
-fn wide_values(b: BitWriter, out: &mut [u8], row: &[i32], j: usize, w: u64) -> BitWriter
-    requires { (j < 2 ^ 32) × (w ≡ group_width (line row.now) j) × Small (line row.now) × Room out.old b (4 * w) }
-    ensures { Appends out.old out.new b result (value_bits (line row.now) w j) }
-{
-    let x = 4 * j;
-    let b1 = b.put(out, w, at(row, x));
-    let b2 = b1.put(out, w, at(row, x + 1));
-    let b3 = b2.put(out, w, at(row, x + 2));
-    b3.put(out, w, at(row, x + 3))
-}
-
-// The four magnitudes of group j, in width w, where they fit one number.
-fn four(row: &[i32], j: usize, w: u64) -> Code
-    requires { (j < 2 ^ 32) × (w ≤ 14) × (w ≡ group_width (line row.now) j) × Small (line row.now) }
-    ensures { (number_bits result.n result.v ≡ value_bits (line row.now) w j) × (result.n ≡ 4 * w) × (result.v < 2 ^ result.n) }
-{
-    let x = 4 * j;
-    let d = Code {
-        n: w,
-        v: at(row, x + 3),
-    };
-    let c = Code {
-        n: w,
-        v: at(row, x + 2),
-    };
-    let b = Code {
-        n: w,
-        v: at(row, x + 1),
-    };
-    let a = Code {
-        n: w,
-        v: at(row, x),
-    };
-    both(a, both(b, both(c, d)))
-}
-
-// Writes the four magnitudes of group j, in width w.
-fn values(b: BitWriter, out: &mut [u8], row: &[i32], j: usize, w: u64) -> BitWriter
-    requires { (j < 2 ^ 32) × (w ≡ group_width (line row.now) j) × Small (line row.now) × Room out.old b (4 * w) }
-    ensures { Appends out.old out.new b result (value_bits (line row.now) w j) }
-{
-    if w <= 14 {
-        let c = four(row, j, w);
-        return b.put(out, c.n, c.v);
-    }
-    wide_values(b, out, row, j, w)
-}
-
-// The sign bit of z: none of 0, 1 of what is below.
-fn sign_of(z: i32) -> Code
-    ensures bits { number_bits result.n result.v ≡ sign_bits z }
-    ensures size { (result.n ≤ 1) × (result.v < 2 ^ result.n) }
-{
-    if z < 0 {
-        return Code { n: 1, v: 1 };
-    }
-    if 0 < z {
-        return Code { n: 1, v: 0 };
-    }
-    Code { n: 0, v: 0 }
-}
-
-// The sign bit of the number at x of a row.
-fn sign_at(row: &[i32], x: usize) -> Code
-    ensures bits { number_bits result.n result.v ≡ sign_bits (line row.now x) }
-    ensures size { (result.n ≤ 1) × (result.v < 2 ^ result.n) }
-{
-    if x < row.len() {
-        return sign_of(row[x]);
-    }
-    Code { n: 0, v: 0 }
-}
-
-// One code behind another.
-pub fn both(a: Code, b: Code) -> Code
-    requires { (a.n + b.n ≤ 56) × (a.v < 2 ^ a.n) × (b.v < 2 ^ b.n) }
-    ensures bits { number_bits result.n result.v ≡ number_bits a.n a.v ++ number_bits b.n b.v }
-    ensures size { (result.n ≡ a.n + b.n) × (result.v < 2 ^ result.n) }
-{
-    Code {
-        n: a.n + b.n,
-        v: a.v * power(b.n) + b.v,
-    }
-}
-
-// The signs of group j.
-fn signs(row: &[i32], j: usize) -> Code
-    requires { j < 2 ^ 32 }
-    ensures bits { number_bits result.n result.v ≡ signs_bits (line row.now) j }
-    ensures size { (result.n ≤ 4) × (result.v < 2 ^ result.n) }
-{
-    let x = 4 * j;
-    let c = both(sign_at(row, x + 2), sign_at(row, x + 3));
-    both(sign_at(row, x), both(sign_at(row, x + 1), c))
+    Code::new(z + 1 + z, k)
 }
 
 // A run of k groups, of g, and the width of the next one in unary.
 fn run_tail(g: u64, k: u64, next: u64) -> Code
     requires { (1 ≤ k) × (k ≤ g) × (g < 2 ^ 16) × (next ≤ 19) × (k < g → 1 ≤ next) }
-    ensures bits { number_bits result.n result.v ≡ run_tail g k next }
-    ensures size { (result.n ≤ 56) × (result.v < 2 ^ result.n) }
+    ensures { number_bits result.n result.v ≡ run_tail g k next }
 {
     let c = run_code(g, k);
-    if k == g {
-        return c;
-    }
-    both(c, Code { n: next, v: 1 })
+    if k == g { c } else { c.then(Code::unary(next)) }
 }
 
-// Behind the values of group j, where g are left: the update to the next width, and the signs.
-fn group_tail(row: &[i32], j: usize, g: usize, w: u64, next: u64) -> Code
-    requires { (j < 2 ^ 32) × (w ≤ 19) × (next ≤ 19) × (w ≡ group_width (line row.now) j) × (next ≡ group_width (line row.now) (j + 1)) }
-    ensures bits { number_bits result.n result.v ≡ next_bits (line row.now) j g ++ signs_bits (line row.now) j }
-    ensures size { (result.n ≤ 56) × (result.v < 2 ^ result.n) }
+// The sign bit of z: none of 0, 1 of what is below.
+fn sign_of(z: i32) -> Code
+    ensures { (number_bits result.n result.v ≡ sign_bits z) × (result.n ≤ 1) }
 {
-    let s = signs(row, j);
-    if g <= 1 {
-        return s;
+    if z == 0 {
+        return Code::zeros(0);
     }
-    both(update_code(w, next), s)
+    Code::new(1, u64::from(z < 0))
 }
 
 // One turn of a row: the groups that it passes, the width of the next one, and the bits behind the values.
 #[derive(Clone, Copy)]
-pub struct Turn {
-    pub groups: usize,
-    pub width: u64,
-    pub n: u64,
-    pub v: u64,
+struct Turn {
+    groups: usize,
+    width: u64,
+    code: Code,
 }
 
-// The turn at group j, whose width is w, where g groups are left.
-fn turn_at(row: &[i32], j: usize, g: usize, w: u64) -> Turn
-    requires { (j + g < 2 ^ 16) × (0 < g) × (w ≡ group_width (line row.now) j) × Small (line row.now) }
-    ensures groups { (result.groups ≡ turn_groups (line row.now) j g) × (result.width ≡ group_width (line row.now) (j + result.groups)) }
-    ensures bits { number_bits result.n result.v ≡ tail_bits (line row.now) j g }
-    ensures bounds { (1 ≤ result.groups) × (result.groups ≤ g) × (result.n ≤ 56) × (result.v < 2 ^ result.n) }
-{
-    if w == 0 {
-        let k = zero_groups(row, j, g);
-        let next = width_of(row, j + k);
-        let c = run_tail(g as u64, k as u64, next);
-        return Turn {
-            groups: k,
+// A row that may be written: its numbers, 0 past their end.
+#[derive(Clone, Copy)]
+struct Row<'a> {
+    numbers: &'a [i32],
+    ghost short: { length numbers.now < 2 ^ 16 },
+    ghost small: { Small (line numbers.now) },
+}
+
+impl Row<'_> {
+    // The number at x.
+    fn at(self, x: usize) -> i32
+        ensures { result ≡ line self.entry.numbers.now x }
+    {
+        self.numbers.get(x).copied().unwrap_or(0)
+    }
+
+    // How far it is from 0.
+    fn size(self, x: usize) -> u64
+        ensures { result ≡ nat_abs (line self.entry.numbers.now x) }
+    {
+        u64::from(self.at(x).unsigned_abs())
+    }
+
+    // The smallest width that holds the four magnitudes of group j.
+    fn width_of(self, j: usize) -> u64
+        requires { j < 2 ^ 32 }
+        ensures { (result ≡ group_width (line self.entry.numbers.now) j) × (result ≤ 19) }
+    {
+        let x = 4 * j;
+        let first = self.size(x).max(self.size(x + 1));
+        bit_length(first.max(self.size(x + 2).max(self.size(x + 3))))
+    }
+
+    // The zero groups from group j on, at most g.
+    fn zero_groups(self, j: usize, g: usize) -> usize
+        requires { j + g < 2 ^ 32 }
+        ensures { (result ≡ zero_groups (line self.entry.numbers.now) j g) × (result ≤ g) }
+    {
+        for k in 0..g {
+            if self.width_of(j + k) != 0 {
+                return k;
+            }
+        }
+        g
+    }
+
+    // The magnitudes at x and behind it, in width w.
+    fn pair(self, x: usize, w: u64) -> Code
+        requires { (x < 2 ^ 40) × (w ≤ 19) × (nat_abs (line self.numbers.now x) < 2 ^ w) × (nat_abs (line self.numbers.now (x + 1)) < 2 ^ w) }
+        ensures { (number_bits result.n result.v ≡ number_bits w (nat_abs (line self.entry.numbers.now x)) ++ number_bits w (nat_abs (line self.entry.numbers.now (x + 1)))) × (result.n ≡ 2 * w) }
+    {
+        Code::new(w, self.size(x)).then(Code::new(w, self.size(x + 1)))
+    }
+
+    // The signs of group j.
+    fn signs(self, j: usize) -> Code
+        requires { j < 2 ^ 32 }
+        ensures { (number_bits result.n result.v ≡ signs_bits (line self.entry.numbers.now) j) × (result.n ≤ 4) }
+    {
+        let x = 4 * j;
+        let first = sign_of(self.at(x)).then(sign_of(self.at(x + 1)));
+        first.then(sign_of(self.at(x + 2)).then(sign_of(self.at(x + 3))))
+    }
+
+    // Behind the values of group j, where g are left: the update to the next width, and the signs.
+    fn group_tail(self, j: usize, g: usize, w: u64, next: u64) -> Code
+        requires { (j < 2 ^ 32) × (w ≡ group_width (line self.numbers.now) j) × (next ≡ group_width (line self.numbers.now) (j + 1)) }
+        ensures { number_bits result.n result.v ≡ next_bits (line self.entry.numbers.now) j g ++ signs_bits (line self.entry.numbers.now) j }
+    {
+        let s = self.signs(j);
+        if g <= 1 {
+            s
+        } else {
+            update_code(w, next).then(s)
+        }
+    }
+
+    // The turn at group j, whose width is w, where g groups are left.
+    fn turn(self, j: usize, g: usize, w: u64) -> Turn
+        requires { (j + g < 2 ^ 16) × (0 < g) × (w ≡ group_width (line self.numbers.now) j) }
+        ensures groups { (result.groups ≡ turn_groups (line self.entry.numbers.now) j g) × (result.width ≡ group_width (line self.entry.numbers.now) (j + result.groups)) }
+        ensures bits { number_bits result.code.n result.code.v ≡ tail_bits (line self.entry.numbers.now) j g }
+        ensures bounds { (1 ≤ result.groups) × (result.groups ≤ g) }
+    {
+        if w == 0 {
+            let k = self.zero_groups(j, g);
+            let next = self.width_of(j + k);
+            return Turn {
+                groups: k,
+                width: next,
+                code: run_tail(g as u64, k as u64, next),
+            };
+        }
+        let next = self.width_of(j + 1);
+        Turn {
+            groups: 1,
             width: next,
-            n: c.n,
-            v: c.v,
+            code: self.group_tail(j, g, w, next),
+        }
+    }
+}
+
+// Puts the four magnitudes of group j, in width w: in one code where they fit it.
+fn put_values<S: Sink>(s: &mut S, row: Row, j: usize, w: u64)
+    requires { (j < 2 ^ 32) × (w ≡ group_width (line row.numbers.now) j) × S.CanTake s.old (4 * w) }
+    ensures { S.Takes s.old s.new (value_bits (line row.entry.numbers.now) w j) }
+{
+    let a = row.pair(4 * j, w);
+    let b = row.pair(4 * j + 2, w);
+    if w <= 14 {
+        s.put(a.then(b));
+    } else {
+        s.put(a);
+        s.put(b);
+    }
+}
+
+// Puts a row, turn by turn: each passes one group, or a run of zero groups.
+fn put_row<S: Sink>(s: &mut S, row: Row)
+    requires { S.CanTake s.old (length (row_bits (length row.numbers.now) (line row.numbers.now))) }
+    ensures { S.Takes s.old s.new (row_bits (length row.entry.numbers.now) (line row.entry.numbers.now)) }
+{
+    let g = row.numbers.len().div_ceil(4);
+    let mut w = row.width_of(0);
+    s.put(update_code(0, w));
+    let mut j = 0;
+    while j < g {
+        let t = row.turn(j, g - j, w);
+        put_values(s, row, j, w);
+        s.put(t.code);
+        w = t.width;
+        j += t.groups;
+    }
+}
+
+// Puts the rows of a list, which are of one length.
+fn put_rows<S: Sink>(s: &mut S, l: &[i32], cols: usize, n: usize)
+    requires { (cols < 2 ^ 16) × (n < 2 ^ 8) × (length l.now ≡ n * cols) × Small (line l.now) × S.CanTake s.old (length (rows_in cols l.now n)) }
+    ensures { S.Takes s.old s.new (rows_in cols l.now n) }
+{
+    for q in 0..n {
+        let a = q * cols;
+        let row = Row {
+            numbers: &l[a..a + cols],
         };
+        put_row(s, row);
     }
-    let next = width_of(row, j + 1);
-    let c = group_tail(row, j, g, w, next);
-    Turn {
-        groups: 1,
-        width: next,
-        n: c.n,
-        v: c.v,
-    }
-}
-
-// Writes a row.
-fn put_row(b: BitWriter, out: &mut [u8], row: &[i32]) -> BitWriter
-    requires { (length row.now < 2 ^ 16) × Small (line row.now) × Room out.old b (length (row_bits (length row.now) (line row.now))) }
-    ensures { Appends out.old out.new b result (row_bits (length row.now) (line row.now)) }
-{
-    let g = (row.len() + 3) / 4;
-    let mut w = width_of(row, 0);
-    let c = update_code(0, w);
-    let mut r = b.put(out, c.n, c.v);
-    let mut j = 0;
-    while j < g {
-        let t = turn_at(row, j, g - j, w);
-        let v = values(r, out, row, j, w);
-        r = v.put(out, t.n, t.v);
-        w = t.width;
-        j += t.groups;
-    }
-    r
-}
-
-// The bits that a row takes.
-fn measure_row(row: &[i32]) -> u64
-    requires { (length row.now < 2 ^ 16) × Small (line row.now) }
-    ensures { (result ≡ length (row_bits (length row.now) (line row.now))) × (result < 2 ^ 24) }
-{
-    let g = (row.len() + 3) / 4;
-    let mut w = width_of(row, 0);
-    let mut n = update_code(0, w).n;
-    let mut j = 0;
-    while j < g {
-        let t = turn_at(row, j, g - j, w);
-        n = n + 4 * w + t.n;
-        w = t.width;
-        j += t.groups;
-    }
-    n
 }
 
 // Whether all numbers are 0.
 fn all_zero(l: &[i32]) -> bool
     ensures { result ≡ eqb (total l.now) 0 }
 {
-    let mut x = 0;
-    while x < l.len() {
-        if at(l, x) != 0 {
-            return false;
-        }
-        x += 1;
-    }
-    true
+    l.iter().all(|z| *z == 0)
 }
 
-// Writes n rows of one length.
-fn put_rows(b: BitWriter, out: &mut [u8], l: &[i32], cols: usize, n: usize) -> BitWriter
-    requires { (cols < 2 ^ 16) × (n < 2 ^ 8) × (length l.now ≡ n * cols) × Small (line l.now) × Room out.old b (length (rows_in cols l.now n)) }
-    ensures { Appends out.old out.new b result (rows_in cols l.now n) }
+// Puts the rows of a record; an all-zero record has no bits.
+fn put_numbers<S: Sink>(s: &mut S, l: &[i32], cols: usize, n: usize)
+    requires { (cols < 2 ^ 16) × (n < 2 ^ 8) × (length l.now ≡ n * cols) × Small (line l.now) × S.CanTake s.old (length (record_in cols n l.now)) }
+    ensures { S.Takes s.old s.new (record_in cols n l.now) }
 {
-    let mut r = b;
-    let mut a: usize = 0;
-    let mut q: usize = 0;
-    while q < n {
-        let end = a + cols;
-        r = put_row(r, out, &l[a..end]);
-        a = end;
-        q += 1;
+    if !all_zero(l) {
+        put_rows(s, l, cols, n);
     }
-    r
 }
 
-// The bits that n rows take.
-fn measure_rows(l: &[i32], cols: usize, n: usize) -> u64
-    requires { (cols < 2 ^ 16) × (n < 2 ^ 8) × (length l.now ≡ n * cols) × Small (line l.now) }
-    ensures { (result ≡ length (rows_in cols l.now n)) × (result ≤ n * 2 ^ 24) }
+// Writes a record, and zeros up to a whole byte.
+pub fn put_record(w: &mut BitWriter, l: &[i32], cols: usize, n: usize)
+    requires { (cols < 2 ^ 16) × (n < 2 ^ 8) × (length l.now ≡ n * cols) × Small (line l.now) × Room w.old (length (filled 8 (record_in cols n l.now))) × (w.old.held ≡ 0) }
+    ensures { Appends w.old w.new (filled 8 (record_in cols n l.now)) × (w.new.held ≡ 0) }
 {
-    let mut bits: u64 = 0;
-    let mut a: usize = 0;
-    let mut q: usize = 0;
-    while q < n {
-        let end = a + cols;
-        bits += measure_row(&l[a..end]);
-        a = end;
-        q += 1;
-    }
-    bits
-}
-
-// Writes a record, and zeros up to a whole byte; an all-zero record has no bits.
-pub fn put_record(b: BitWriter, out: &mut [u8], l: &[i32], cols: usize, n: usize) -> BitWriter
-    requires { (cols < 2 ^ 16) × (n < 2 ^ 8) × (length l.now ≡ n * cols) × Small (line l.now) × Room out.old b (length (filled 8 (record_in cols n l.now))) × (b.held ≡ 0) }
-    ensures { Appends out.old out.new b result (filled 8 (record_in cols n l.now)) × (result.held ≡ 0) }
-{
-    if all_zero(l) {
-        return b;
-    }
-    put_rows(b, out, l, cols, n).finish(out)
+    put_numbers(w, l, cols, n);
+    w.finish();
 }
 
 // The bytes that a record takes.
@@ -469,32 +414,7 @@ pub fn record_bytes(l: &[i32], cols: usize, n: usize) -> u64
     requires { (cols < 2 ^ 16) × (n < 2 ^ 8) × (length l.now ≡ n * cols) × Small (line l.now) }
     ensures { (result ≡ units 8 (record_in cols n l.now)) × (result < 2 ^ 32) }
 {
-    if all_zero(l) {
-        return 0;
-    }
-    (measure_rows(l, cols, n) + 7) / 8
-}
-
-// Writes k bytes of zeros.
-pub fn put_zeros(b: BitWriter, out: &mut [u8], k: usize) -> BitWriter
-    requires { Room out.old b (8 * k) }
-    ensures { Appends out.old out.new b result (zero_bits (8 * k)) }
-{
-    let mut r = b;
-    let mut i: usize = 0;
-    while i < k {
-        r = r.put(out, 8, 0);
-        i += 1;
-    }
-    r
-}
-
-// Writes zeros up to the end.
-pub fn fill_up(b: BitWriter, out: &mut [u8])
-    requires { Room out.old b 0 }
-    ensures { (old x : List ℕ) → Wrote old out.old b x → out.new ≡ packed (x ++ zero_bits (8 * length out.old - length x)) }
-{
-    let r = b.finish(out);
-    let k = out.len() - r.place;
-    put_zeros(r, out, k);
+    let mut count = Count { bits: 0 };
+    put_numbers(&mut count, l, cols, n);
+    count.bits.div_ceil(8)
 }

@@ -16,5 +16,5 @@ pub tall-some : (g : Bool) (n : ℕ) → Tall g n → g ≡ true → 1 ≤ n
 tall-some g n t e = let two = rw e at t in omega (arith, two)
 
 -- a record's header has 28 bits at most
-pub header-le : (k i : ℕ) → k < 4 → (16 + 4 * k) * i ≤ 28 * i
-header-le k i h = mul-le-mul_right i (omega arith)
+pub header_le : (k i : ℕ) → k < 4 → (16 + 4 * k) * i ≤ 28 * i
+header_le k i h = mul-le-mul_right i (omega arith)

@@ -3,154 +3,242 @@
 #![tactic(auto)]
 
 ghost use Rattle.std.specs.Prelude.{◌≡◌, true, ◌*◌, ◌^◌, ◌<◌, ◌≤◌, length};
+ghost use Rattle.format.specs.Bits.{bits_at};
 ghost use Rattle.format.specs.Sizes.{green, red, numbered, components, multiplier, columns, stripes, guarded, plane_rows, plane_rows_of, plane_columns, work_length};
 ghost use Rattle.format.specs.Strip.{width, half_height, coded_height, group_size};
 ghost use Rattle.format.specs.Packets.{control, extra, tag, zero4, kind, zero6, blocks, marker, zero8, padding, size_of, record_bit, record_length, payload_at};
 
+use std::marker::Model;
 use words::field;
 
-// The width w of a stream.
-pub fn width(stream: &[u8]) -> usize
-    requires { 8 ≤ length stream.now }
-    ensures { (result ≡ width stream.now) × (result < 2 ^ 16) }
-{
-    field(stream, 64, 16)
+// A stream, of eight bytes at least: its value is its bytes. Past its end a field's bits are 0. It begins with the same four functions as a
+// packet: one type for both would take a packet where a stream is asked.
+#[derive(Drop)]
+pub struct Stream<'a> {
+    bytes: &'a [u8],
 }
 
-// Half the height.
-pub fn half_height(stream: &[u8]) -> usize
-    requires { 8 ≤ length stream.now }
-    ensures { (result ≡ half_height stream.now) × (result < 2 ^ 16) }
-{
-    field(stream, 80, 16)
+impl<'a> Model for Stream<'a> {
+    ghost use Rattle.std.specs.Prelude.{◌≤◌, List, ℕ, length};
+
+    ghost Value = { List ℕ };
+
+    ghost view = { λ p. p.bytes.now };
+
+    ghost invariant = { λ p. 8 ≤ length p.bytes.now };
 }
 
-// The coded height H.
-pub fn coded_height(stream: &[u8]) -> usize
-    requires { 8 ≤ length stream.now }
-    ensures { (result ≡ coded_height stream.now) × (result < 2 ^ 17) }
-{
-    half_height(stream) * 2
+impl<'a> Stream<'a> {
+    // The stream of some bytes.
+    pub fn new(bytes: &'a [u8]) -> Self
+        requires { 8 ≤ length bytes.now }
+        ensures { result ≡ bytes.now }
+    {
+        Self { bytes }
+    }
+
+    // Its bytes.
+    pub fn bytes(&self) -> &'a [u8]
+        ensures { (result.now ≡ self.now) × (8 ≤ length self.now) }
+    {
+        self.bytes
+    }
+
+    // How many there are.
+    pub fn len(&self) -> usize
+        ensures { result ≡ length self.now }
+    {
+        self.bytes.len()
+    }
+
+    // The number that n bits from a place on make.
+    pub fn bits(&self, at: usize, n: u64) -> usize
+        requires { n ≤ 57 }
+        ensures { (result ≡ bits_at self.now at n) × (result < 2 ^ n) }
+    {
+        field(self.bytes, at, n)
+    }
+
+    // The width w of a stream.
+    pub fn width(&self) -> usize
+        ensures { (result ≡ width self.now) × (result < 2 ^ 16) }
+    {
+        self.bits(64, 16)
+    }
+
+    // Half the height.
+    pub fn half_height(&self) -> usize
+        ensures { (result ≡ half_height self.now) × (result < 2 ^ 16) }
+    {
+        self.bits(80, 16)
+    }
+
+    // The coded height H.
+    pub fn coded_height(&self) -> usize
+        ensures { (result ≡ coded_height self.now) × (result < 2 ^ 17) }
+    {
+        self.half_height() * 2
+    }
+
+    // The size of a group in bytes.
+    #[tactic(auto, unfolding(format::specs::Strip::group_size))]
+    pub fn group_size(&self, group: usize) -> usize
+        requires { group < 5 }
+        ensures { (result ≡ group_size self.now group) × (result < 2 ^ 28) }
+    {
+        self.bits(8 * (16 + 3 * group), 24) * 16
+    }
 }
 
-// The size of a group in bytes.
-pub fn group_size(stream: &[u8], group: usize) -> usize
-    requires { (8 ≤ length stream.now) × (group < 5) }
-    ensures { (result ≡ group_size stream.now group) × (result < 2 ^ 28) }
-{
-    field(stream, 8 * (16 + 3 * group), 24) * 16
+// A packet, of eight bytes at least: its value is its bytes. Past its end a field's bits are 0.
+#[derive(Drop)]
+pub struct Packet<'a> {
+    bytes: &'a [u8],
 }
 
-// The units of 16 bytes before the payloads, less one.
-fn control(packet: &[u8]) -> usize
-    requires { 8 ≤ length packet.now }
-    ensures { (result ≡ control packet.now) × (result < 2 ^ 16) }
-{
-    field(packet, 0, 16)
+impl<'a> Model for Packet<'a> {
+    ghost use Rattle.std.specs.Prelude.{◌≤◌, List, ℕ, length};
+
+    ghost Value = { List ℕ };
+
+    ghost view = { λ p. p.bytes.now };
+
+    ghost invariant = { λ p. 8 ≤ length p.bytes.now };
 }
 
-// The units of the payloads.
-fn extra(packet: &[u8]) -> usize
-    requires { 8 ≤ length packet.now }
-    ensures { (result ≡ extra packet.now) × (result < 2 ^ 24) }
-{
-    field(packet, 16, 24)
-}
+impl<'a> Packet<'a> {
+    // The packet of some bytes.
+    pub fn new(bytes: &'a [u8]) -> Self
+        requires { 8 ≤ length bytes.now }
+        ensures { result ≡ bytes.now }
+    {
+        Self { bytes }
+    }
 
-// The tag: 4.
-pub fn tag(packet: &[u8]) -> usize
-    requires { 8 ≤ length packet.now }
-    ensures { (result ≡ tag packet.now) × (result < 2 ^ 4) }
-{
-    field(packet, 40, 4)
-}
+    // Its bytes.
+    pub fn bytes(&self) -> &'a [u8]
+        ensures { (result.now ≡ self.now) × (8 ≤ length self.now) }
+    {
+        self.bytes
+    }
 
-// Four zeros.
-pub fn zero4(packet: &[u8]) -> usize
-    requires { 8 ≤ length packet.now }
-    ensures { (result ≡ zero4 packet.now) × (result < 2 ^ 4) }
-{
-    field(packet, 44, 4)
-}
+    // How many there are.
+    pub fn len(&self) -> usize
+        ensures { result ≡ length self.now }
+    {
+        self.bytes.len()
+    }
 
-// The kind, 1 or 3: how many components a record has.
-pub fn kind(packet: &[u8]) -> usize
-    requires { 8 ≤ length packet.now }
-    ensures { (result ≡ kind packet.now) × (result < 2 ^ 2) }
-{
-    field(packet, 48, 2)
-}
+    // The number that n bits from a place on make.
+    pub fn bits(&self, place: usize, n: u64) -> usize
+        requires { n ≤ 57 }
+        ensures { (result ≡ bits_at self.now place n) × (result < 2 ^ n) }
+    {
+        field(self.bytes, place, n)
+    }
 
-// Six zeros.
-pub fn zero6(packet: &[u8]) -> usize
-    requires { 8 ≤ length packet.now }
-    ensures { (result ≡ zero6 packet.now) × (result < 2 ^ 6) }
-{
-    field(packet, 50, 6)
-}
+    // The units of 16 bytes before the payloads, less one.
+    fn control(&self) -> usize
+        ensures { (result ≡ control self.now) × (result < 2 ^ 16) }
+    {
+        self.bits(0, 16)
+    }
 
-// How many records there are.
-pub fn blocks(packet: &[u8]) -> usize
-    requires { 8 ≤ length packet.now }
-    ensures { (result ≡ blocks packet.now) × (result < 2 ^ 16) }
-{
-    field(packet, 56, 16)
-}
+    // The units of the payloads.
+    fn extra(&self) -> usize
+        ensures { (result ≡ extra self.now) × (result < 2 ^ 24) }
+    {
+        self.bits(16, 24)
+    }
 
-// The marker: 16.
-pub fn marker(packet: &[u8]) -> usize
-    requires { 8 ≤ length packet.now }
-    ensures { (result ≡ marker packet.now) × (result < 2 ^ 8) }
-{
-    field(packet, 72, 8)
-}
+    // The tag: 4.
+    pub fn tag(&self) -> usize
+        ensures { (result ≡ tag self.now) × (result < 2 ^ 4) }
+    {
+        self.bits(40, 4)
+    }
 
-// Eight zeros.
-pub fn zero8(packet: &[u8]) -> usize
-    requires { 8 ≤ length packet.now }
-    ensures { (result ≡ zero8 packet.now) × (result < 2 ^ 8) }
-{
-    field(packet, 80, 8)
-}
+    // Four zeros.
+    pub fn zero4(&self) -> usize
+        ensures { (result ≡ zero4 self.now) × (result < 2 ^ 4) }
+    {
+        self.bits(44, 4)
+    }
 
-// Forty zeros, to the end of the header.
-pub fn padding(packet: &[u8]) -> usize
-    requires { 8 ≤ length packet.now }
-    ensures { (result ≡ padding packet.now) × (result < 2 ^ 40) }
-{
-    field(packet, 88, 40)
-}
+    // The kind, 1 or 3: how many components a record has.
+    pub fn kind(&self) -> usize
+        ensures { (result ≡ kind self.now) × (result < 2 ^ 2) }
+    {
+        self.bits(48, 2)
+    }
 
-// The size of a packet in bytes, by its header.
-pub fn size_of(packet: &[u8]) -> usize
-    requires { 8 ≤ length packet.now }
-    ensures { (result ≡ size_of packet.now) × (result < 2 ^ 29) }
-{
-    (control(packet) + 1 + extra(packet)) * 16
-}
+    // Six zeros.
+    pub fn zero6(&self) -> usize
+        ensures { (result ≡ zero6 self.now) × (result < 2 ^ 6) }
+    {
+        self.bits(50, 6)
+    }
 
-// The bit of a packet where the header of record i starts.
-pub fn record_bit(packet: &[u8], i: usize) -> usize
-    requires { (8 ≤ length packet.now) × (i < 2 ^ 32) }
-    ensures { (result ≡ record_bit packet.now i) × (result < 2 ^ 40) }
-{
-    128 + (16 + 4 * kind(packet)) * i
-}
+    // How many records there are.
+    pub fn blocks(&self) -> usize
+        ensures { (result ≡ blocks self.now) × (result < 2 ^ 16) }
+    {
+        self.bits(56, 16)
+    }
 
-// The byte length of record i.
-pub fn record_length(packet: &[u8], i: usize) -> usize
-    requires { (8 ≤ length packet.now) × (i < 2 ^ 32) }
-    ensures { (result ≡ record_length packet.now i) × (result < 2 ^ 16) }
-{
-    field(packet, record_bit(packet, i), 16)
-}
+    // The marker: 16.
+    pub fn marker(&self) -> usize
+        ensures { (result ≡ marker self.now) × (result < 2 ^ 8) }
+    {
+        self.bits(72, 8)
+    }
 
-// The byte of a packet where the payloads start.
-pub fn first_payload(packet: &[u8]) -> usize
-    requires { 8 ≤ length packet.now }
-    ensures { (result ≡ payload_at packet.now 0) × (result ≤ 2 ^ 20) }
-{
-    (control(packet) + 1) * 16
+    // Eight zeros.
+    pub fn zero8(&self) -> usize
+        ensures { (result ≡ zero8 self.now) × (result < 2 ^ 8) }
+    {
+        self.bits(80, 8)
+    }
+
+    // Forty zeros, to the end of the header.
+    pub fn padding(&self) -> usize
+        ensures { (result ≡ padding self.now) × (result < 2 ^ 40) }
+    {
+        self.bits(88, 40)
+    }
+
+    // The size of a packet in bytes, by its header.
+    #[tactic(auto, unfolding(format::specs::Packets::size_of))]
+    pub fn size_of(&self) -> usize
+        ensures { (result ≡ size_of self.now) × (result < 2 ^ 29) }
+    {
+        (self.control() + 1 + self.extra()) * 16
+    }
+
+    // The bit of a packet where the header of record i starts.
+    #[tactic(auto, using(crate::proofs::SizeLaws::header_le), unfolding(format::specs::Packets::record_bit))]
+    pub fn record_bit(&self, i: usize) -> usize
+        requires { i < 2 ^ 32 }
+        ensures { (result ≡ record_bit self.now i) × (result < 2 ^ 40) }
+    {
+        128 + (16 + 4 * self.kind()) * i
+    }
+
+    // The byte length of record i.
+    #[tactic(auto, unfolding(format::specs::Packets::record_length))]
+    pub fn record_length(&self, i: usize) -> usize
+        requires { i < 2 ^ 32 }
+        ensures { (result ≡ record_length self.now i) × (result < 2 ^ 16) }
+    {
+        self.bits(self.record_bit(i), 16)
+    }
+
+    // The byte of a packet where the payloads start.
+    pub fn first_payload(&self) -> usize
+        ensures { (result ≡ payload_at self.now 0) × (result ≤ 2 ^ 20) }
+    {
+        (self.control() + 1) * 16
+    }
 }
 
 // The components of group g.

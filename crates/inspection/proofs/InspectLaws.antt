@@ -14,10 +14,19 @@ use Rattle.format.specs.Refusals.{◌▷◌, on}
 use Rattle.format.specs.Coefficients.{record_of}
 use Rattle.format.specs.Used as used
 use Rattle.format.specs.Used.{packet_in, has_record, numbers_in, values_in, stream_refusal, inspect_refusal, nothing, of_record, inspected, band_after}
-use Rattle.format.proofs.TurnLaws.{stops}
 use Rattle.format.proofs.Lengths.{length-record}
 use Rattle.inspection.specs.declared.Inspected.{Inspected}
-use Rattle.inspection.specs.Inspect.{code_of, InspectOutcome}
+use Rattle.std.proofs.Common.{Result, Ok, Err, Option}
+use Rattle.std.specs.Result.{IsErrAnd}
+use Rattle.refusals.specs.declared.Refusal.{Refusal}
+use Rattle.refusals.specs.Number.{number_of}
+use Rattle.refusals.proofs.Laws.{not_zero, decides}
+use Rattle.inspection.specs.Inspect.{told, InspectOutcome}
+
+-- what the exit of a `?` tells
+pub told_exit : (r : Result (Option Inspected) Refusal) (e : Refusal) → IsErrAnd r (λ d. d ≡ e) → told r ≡ nothing (number_of e)
+told_exit (Ok x) e h = elim h [ ]
+told_exit (Err d) e h = ap (λ (x : Refusal). nothing (number_of x)) h
 
 module _ (s : List ℕ) (q i : ℕ) where
   pub no-packet : 13 ≤ q → has_record s q i ≡ false
@@ -36,15 +45,16 @@ module _ (s : List ℕ) (q i : ℕ) where
   unfolding has_record
   has-record h k = rw (lt-ltb q 13 h, lt-ltb i (blocks (packet_in s q)) k) refl
 
-  module _ (band : List ℤ) (r : Inspected) where
-    pub refused : (k : ℕ) → k ≡ stream_refusal s → (k ≡ 0 → ⊥) → r ≡ code_of (nothing k) → InspectOutcome s q i band r band
+  module _ (band : List ℤ) (r : used.Inspected) where
+    pub refused : (e : Refusal) → number_of e ≡ stream_refusal s → r ≡ nothing (number_of e) → InspectOutcome s q i band r band
     unfolding inspect_refusal inspected band_after
-    refused k e set a =
+    refused e is a =
+        let k = number_of e in
         let e' : (stream_refusal s ▷ on (has_record s q i && ltb (length band) (numbers_in s q)) 4) ≡ k =
-        stops _ _ (λ z. set (e ∙ z)) ∙ sym e in
-        record { answer = rw (e', ne_eqb k 0 set) a; bands = rw (e', ne_eqb k 0 set) refl }
+        sym (decides e _ _ is) in
+        record { answer = rw (e', ne_eqb k 0 (not_zero e)) a; bands = rw (e', ne_eqb k 0 (not_zero e)) refl }
 
-    pub absent : stream_refusal s ≡ 0 → has_record s q i ≡ false → r ≡ code_of (nothing 0) → InspectOutcome s q i band r band
+    pub absent : stream_refusal s ≡ 0 → has_record s q i ≡ false → r ≡ nothing 0 → InspectOutcome s q i band r band
     unfolding inspect_refusal inspected band_after
     absent none not a = record { answer = rw (none, not) a; bands = rw (none, not) refl }
 
@@ -68,7 +78,7 @@ module _ (s : List ℕ) (q i : ℕ) where
       long : length (values_in s q i) ≡ size
       long = ap length values ∙ length-record p m cols i
 
-      pub there : (band' : List ℤ) → r ≡ code_of (cond short (nothing 4) (of_record p m cols i))
+      pub there : (band' : List ℤ) → r ≡ cond short (nothing 4) (of_record p m cols i)
           → band' ≡ cond short band ((record_of p m cols i).values ++ drop size band) → InspectOutcome s q i band r band'
       unfolding inspect_refusal inspected band_after
       there band' a b =
@@ -80,9 +90,9 @@ module _ (s : List ℕ) (q i : ℕ) where
             bands = b ∙ rw (e, has) (after short _ _ l);
           }
         where
-          by : (b : Bool) (x y : used.Inspected) → x ≡ y → code_of (cond b (nothing 4) x) ≡ code_of (cond (eqb (on b 4) 0 && true) y (nothing (on b 4)))
+          by : (b : Bool) (x y : used.Inspected) → x ≡ y → cond b (nothing 4) x ≡ cond (eqb (on b 4) 0 && true) y (nothing (on b 4))
           by true x y e = refl
-          by false x y e = ap code_of e
+          by false x y e = e
 
           after : (b : Bool) (x y : List ℤ) → x ≡ y → cond b band x ≡ cond (eqb (on b 4) 0 && true) y band
           after true x y e = refl

@@ -21,11 +21,10 @@ use Rattle.format.proofs.Exact.{rows-after, after-most}
 use Rattle.format.proofs.TableLaws.{source_in as source-in}
 use Rattle.passes.specs.declared.Plan.{Plan}
 use Rattle.passes.specs.Plan.{line, unit_of, ll2_units, ll_units, final_units, Fits}
-use Rattle.levels.specs.Placed.{ll_in, source_in, out_in}
+use Rattle.levels.specs.Placed.{ll_in, source_in, out_in, out_units}
 use Rattle.levels.specs.Steps.{steps, rows_after, rows_by, next, out_row, Near, Makes}
 use Rattle.levels.specs.Block.{stood, record_size, record_lines, Stood, group_at, Records, Seconds, Lowered, Outcomes}
 use Rattle.levels.proofs.Heights.{heights, highs-3}
-use Rattle.levels.proofs.InBlock.{out_units}
 use Rattle.levels.proofs.Stood.{stood-row, source-line, sums-line}
 
 -- a group's ring of records ends in the first 64 units of its block

@@ -10,13 +10,7 @@ use Rattle.format.specs.Table.{height, highs}
 use Rattle.passes.specs.declared.Band as code-band
 use Rattle.passes.specs.Level.{packet_row}
 use Rattle.levels.specs.Placed.{Short}
-use Rattle.levels.specs.Steps.{next}
-
--- whether the high band leads
-abbrev pub leads : Bool → Level → Bool
-leads g l1 = g
-leads g l2 = g
-leads g l3 = false
+use Rattle.levels.specs.Steps.{leads, next}
 
 pub highs-1 : (g : Bool) (n : ℕ) → Tall g n → n ≡ highs g l1 (height g n l1)
 highs-1 false n t = refl
@@ -61,8 +55,8 @@ next-rows s l3 = omega arith
 -- rows of a level can be counted
 pub row_count : (d : code-band.Band) (y : ℕ) → Short d → y < 2 ^ 40 → packet_row d y < 2 ^ 64
 row_count d y s h =
-    of-cond (λ (k : ℕ). y + k < 2 ^ 64) (ltb y d.e) d.a.1 _ (λ _. omega (arith, s.a)) (λ _.
-    of-cond (λ (k : ℕ). y + k < 2 ^ 64) (ltb y d.k) d.b.1 d.z.1 (λ _. omega (arith, s.b)) (λ _. omega (arith, s.z)))
+    of-cond (λ (k : ℕ). y + k < 2 ^ 64) (ltb y d.runs.head) d.runs.first.1 _ (λ _. omega (arith, s.first)) (λ _.
+    of-cond (λ (k : ℕ). y + k < 2 ^ 64) (ltb y d.runs.tail) d.runs.middle.1 d.runs.last.1 (λ _. omega (arith, s.middle)) (λ _. omega (arith, s.last)))
 
 pub few-rows : (g : Bool) (n : ℕ) (l : Level) → n < 2 ^ 32 → (height g n l < 2 ^ 36) × (highs g l (height g n l) < 2 ^ 37)
 few-rows false n l1 h = (omega arith, omega arith)

@@ -9,10 +9,10 @@ use Rattle.format.specs.Table.{start, height, highs, hl, lh, hh, source, band_ro
 use Rattle.format.specs.Table as table
 use Rattle.format.proofs.TableLaws.{source_in as source-in}
 use Rattle.passes.specs.declared.Level as code
-use Rattle.passes.specs.Plan.{Sized, Slots, final_units}
+use Rattle.passes.specs.Plan.{Sized, Slots}
 use Rattle.passes.specs.Level.{Lows, Highs, Stands}
 use Rattle.passes.proofs.PlaceLaws.{place_is}
-use Rattle.levels.specs.Placed.{packet_in, row_in, ll_in, source_in, out_in, Placed}
+use Rattle.levels.specs.Placed.{packet_in, row_in, ll_in, source_in, out_in, out_units, Placed}
 use Rattle.levels.proofs.Heights.{row_count, few-rows}
 
 module _ (w s at : ℕ) (z : w % 16 ≡ 0) (some : 1 ≤ s) where
@@ -80,12 +80,6 @@ module _ (g : Bool) (w n s at : ℕ) (z : Sized g w n) (k : Slots w s at) (l : L
 
   pub placed-stands : Stands r (highs g l (height g n l)) out
   placed-stands = record { lows = placed-lows; highs = placed-highs; placeable = f.placeable }
-
--- the units of the ring that a level's outcome goes to
-abbrev pub out_units : Level → ℕ
-out_units l1 = 4
-out_units l2 = 16
-out_units l3 = final_units
 
 pub out-room : (w s : ℕ) → w % 16 ≡ 0 → (l : Level) (out : ℕ) → out + s * multiplier (detail l) * (4 * columns w (detail l)) ≡ out + out_units l * (s * (w / 16))
 out-room w s z l1 out = omega arith

@@ -23,14 +23,14 @@ use Rattle.lifting.specs.Lift.{lift_row}
 use Rattle.passes.specs.declared.Level as code
 use Rattle.passes.specs.declared.Plan.{Plan}
 use Rattle.passes.specs.Plan.{line, three_rows, unit_of, Sized, Fits}
-use Rattle.passes.specs.Level.{InPlace, two_rows, lo_h, hi_h, pair_at}
+use Rattle.passes.specs.Level.{InPlace, two_rows, lo_h, hi_h, pair_at, passed_two, pairs_in}
 use Rattle.passes.proofs.PlaceLaws.{pair_is}
 use Rattle.passes.proofs.Planes.{LowLine, HighLine, pair_line, lead-line, lead-high-line}
-use Rattle.levels.specs.Placed.{out_in, Placed, PlacedBy}
-use Rattle.levels.specs.Steps.{passed_two, pairs_in, steps_in, steps, rows_by, next, out_row, Near}
-use Rattle.levels.proofs.Heights.{leads, heights, height-pos, highs-3, next-columns, next-rows}
-use Rattle.levels.proofs.InBlock.{out_units, out-room, placed-stands}
-use Rattle.levels.proofs.StepLaws.{pairs-length}
+use Rattle.levels.specs.Placed.{out_in, out_units, Placed, PlacedBy}
+use Rattle.levels.specs.Steps.{leads, steps_in, steps, rows_by, next, out_row, Near}
+use Rattle.levels.proofs.Heights.{heights, height-pos, highs-3, next-columns, next-rows}
+use Rattle.levels.proofs.InBlock.{out-room, placed-stands}
+use Rattle.passes.proofs.TurnLaws.{pairs-length}
 
 abbrev lead_of : Bool → Lead
 lead_of true = high_leads

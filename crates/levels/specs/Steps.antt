@@ -1,7 +1,7 @@
 -- The steps of a level: pairs of rows, and the row after them where there is one high row more than low ones. What a range of steps reads and makes.
-use Rattle.std.specs.Prelude.{◌≡◌, Bool, cond, List, ℕ, ◌+◌, ◌-◌, ◌*◌, ◌≤◌, ◌<◌, min, ltb, ℤ}
+use Rattle.std.specs.Prelude.{◌≡◌, Bool, false, cond, List, ℕ, ◌+◌, ◌-◌, ◌*◌, ◌≤◌, ◌<◌, min, ltb, ℤ}
 use Rattle.wrap32.specs.Arithmetic.{wrapping}
-use Rattle.lists.specs.Lists.{part, put_at, laid, Gone}
+use Rattle.lists.specs.Lists.{part, put_at, Gone}
 use Rattle.format.specs.Lifting.{Plane}
 use Rattle.format.specs.Sizes.{Level, l1, l2, l3, Group, detail, final, multiplier, columns}
 use Rattle.format.specs.Synthesis.{level}
@@ -11,19 +11,10 @@ use Rattle.lifting.specs.Lift.{lift_row}
 use Rattle.passes.specs.declared.Level as code
 use Rattle.passes.specs.declared.Plan.{Plan}
 use Rattle.passes.specs.Plan.{line}
-use Rattle.passes.specs.Level.{two_rows, lead_two, lo_h, hi_h, pair_at}
+use Rattle.passes.specs.Level.{lo_h, hi_h, pair_at, pairs_in}
 use Rattle.levels.specs.Placed.{ll_in, source_in}
 
 -- ---- as the code has it
--- a pair of rows of a level with either band leading
-abbrev pub passed_two : Bool → code.Level → ℕ → List ℤ → ℕ → List ℤ
-passed_two leads g m work y = cond leads (lead_two g m work y) (two_rows g work y)
-
--- `count` pairs from pair `from` on, laid into a ring of pairs from `out` on
-abbrev pub pairs_in : Bool → code.Level → ℕ → ℕ → ℕ → List ℤ → ℕ → ℕ → List ℤ
-pairs_in leads g m out pairs work from count =
-    laid (λ k. pair_at out pairs g.c (from + k)) (λ k. passed_two leads g m work (from + k)) work count
-
 -- `count` steps
 abbrev pub steps_in : Bool → code.Level → ℕ → ℕ → ℕ → List ℤ → ℕ → ℕ → List ℤ
 steps_in leads g m out pairs work from count =
@@ -32,6 +23,12 @@ steps_in leads g m out pairs work from count =
     (pairs_in leads g m out pairs work from count)
 
 -- ---- in document 01's words
+-- whether the high band leads
+abbrev pub leads : Bool → Level → Bool
+leads g l1 = g
+leads g l2 = g
+leads g l3 = false
+
 -- the steps of a level, the rows of its outcome, and those of them that k steps have made
 abbrev pub steps : Bool → ℕ → Level → ℕ
 steps g n l = highs g l (height g n l)

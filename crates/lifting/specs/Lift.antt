@@ -20,26 +20,26 @@ low_step l p c = sub_w l (shr_z (add_w (add_w p c) (pos 2)) 4)
 unfoldable pub high_step : ℤ → ℤ → ℤ → ℤ
 high_step h a b = add_w h (shr_z (add_w a b) 2)
 
--- the low result at x of a row, from the rows of highs before and at it; the high result, from the rows of results before and after it
-abbrev pub low_at : List ℤ → List ℤ → List ℤ → ℕ → ℤ
-low_at low prev cur x = low_step (at low x) (at prev x) (at cur x)
+-- a high result with one neighbour only: the neighbour itself is added
+abbrev pub end_step : ℤ → ℤ → ℤ → ℤ
+end_step h a b = add_w h a
 
-abbrev pub high_at : List ℤ → List ℤ → List ℤ → ℕ → ℤ
-high_at high a b x = high_step (at high x) (at a x) (at b x)
+-- what a step makes at place k of the rows l, a and b; and a row of n such places
+abbrev pub step_at : (ℤ → ℤ → ℤ → ℤ) → List ℤ → List ℤ → List ℤ → ℕ → ℤ
+step_at step l a b k = step (at l k) (at a k) (at b k)
 
--- a row of n of them
+abbrev pub step_row : (ℤ → ℤ → ℤ → ℤ) → ℕ → List ℤ → List ℤ → List ℤ → List ℤ
+step_row step n l a b = tab n (step_at step l a b)
+
+-- n low results of a row, from the rows of highs before and at it; n high results, from the rows of results before and after it, or from one only
 abbrev pub low_row : ℕ → List ℤ → List ℤ → List ℤ → List ℤ
-low_row n low prev cur = tab n (low_at low prev cur)
+low_row n low prev cur = step_row low_step n low prev cur
 
 abbrev pub high_row : ℕ → List ℤ → List ℤ → List ℤ → List ℤ
-high_row n high a b = tab n (high_at high a b)
-
--- a high result with one neighbour only: the neighbour itself is added
-abbrev pub end_at : List ℤ → List ℤ → ℕ → ℤ
-end_at high a x = add_w (at high x) (at a x)
+high_row n high a b = step_row high_step n high a b
 
 abbrev pub end_row : ℕ → List ℤ → List ℤ → List ℤ
-end_row n high a = tab n (end_at high a)
+end_row n high a = step_row end_step n high a a
 
 -- ---- one row, lifted along itself: w lows and w highs give 2 w results. An index beyond the edge is the edge's own
 

@@ -1,13 +1,14 @@
 // The row kernels of synthesis: 5/3 lifting, E and running sums over rows of i32. Document 01, 'Synthesis'.
 #![tactic(auto)]
 
-ghost use Rattle.std.specs.Prelude.{◌≡◌, ◌+◌, ◌*◌, ◌≤◌, length};
+ghost use Rattle.std.specs.Prelude.{◌≡◌, ◌+◌, ◌*◌, ◌≤◌, length, ℤ};
 ghost use Rattle.lists.specs.Lists.{part, put_at, Clear};
-ghost use Rattle.lifting.specs.Lift.{low_step, high_step, low_row, high_row, end_row, lift_row, edge_row, sum_row};
+ghost use Rattle.lifting.specs.Lift.{low_step, high_step, end_step, low_row, step_row, lift_row, edge_row, sum_row};
 
 use wrap32::{edge_detail, sign16, wrapping_add, wrapping_sub};
 
 // l less a quarter of (p + c + 2).
+#[tactic(auto, using(wrap32::proofs::Laws::stored), unfolding(crate::specs::Lift::low_step))]
 fn low_step(l: i32, p: i32, c: i32) -> i32
     ensures { result ≡ low_step l p c }
 {
@@ -15,10 +16,41 @@ fn low_step(l: i32, p: i32, c: i32) -> i32
 }
 
 // h plus half of (a + b).
+#[tactic(auto, using(wrap32::proofs::Laws::stored), unfolding(crate::specs::Lift::high_step))]
 fn high_step(h: i32, a: i32, b: i32) -> i32
     ensures { result ≡ high_step h a b }
 {
     wrapping_add(h, wrapping_add(a, b) >> 1)
+}
+
+// What a row kernel makes of x, from the numbers at its place in two other rows.
+pub trait Step {
+    ghost step: { ℤ → ℤ → ℤ → ℤ };
+
+    fn step(x: i32, a: i32, b: i32) -> i32
+        ensures { result ≡ step x a b };
+}
+
+// A high result between two rows of low ones.
+pub struct Between;
+
+impl Step for Between {
+    ghost step = { high_step };
+
+    fn step(x: i32, a: i32, b: i32) -> i32 {
+        high_step(x, a, b)
+    }
+}
+
+// A high result beside one row only: its number is added.
+pub struct Beside;
+
+impl Step for Beside {
+    ghost step = { end_step };
+
+    fn step(x: i32, a: i32, _b: i32) -> i32 {
+        wrapping_add(x, a)
+    }
 }
 
 // The low results of one row.
@@ -26,10 +58,8 @@ pub fn lift_low(dst: &mut [i32], low: &[i32], prev: &[i32], cur: &[i32])
     requires { (length dst.old ≤ length low.now) × (length dst.old ≤ length prev.now) × (length dst.old ≤ length cur.now) }
     ensures { dst.new ≡ low_row (length dst.old) low.now prev.now cur.now }
 {
-    let mut x = 0;
-    while x < dst.len() {
-        dst[x] = low_step(low[x], prev[x], cur[x]);
-        x += 1;
+    for (x, d) in dst.iter_mut().enumerate() {
+        *d = low_step(low[x], prev[x], cur[x]);
     }
 }
 
@@ -40,44 +70,27 @@ pub fn lift_row(out: &mut [i32], low: &[i32], high: &[i32])
 {
     let w = low.len();
     if 0 < w {
+        let last = w - 1;
         let mut cur = low_step(low[0], high[0], high[0]);
-        let mut x = 0;
-        while x + 1 < w {
+        for x in 0..last {
             let next = low_step(low[x + 1], high[x], high[x + 1]);
             out[2 * x] = cur;
             out[2 * x + 1] = high_step(high[x], cur, next);
             cur = next;
-            x += 1;
         }
-        out[2 * x] = cur;
-        out[2 * x + 1] = high_step(high[x], cur, cur);
+        out[2 * last] = cur;
+        out[2 * last + 1] = high_step(high[last], cur, cur);
     }
 }
 
-// High results at `to`, between the rows at a and b of the same slice.
-pub fn odd_row(ring: &mut [i32], high: &[i32], to: usize, a: usize, b: usize)
+// High results at `to`, from the rows at a and b of the same slice.
+pub fn step_row<S: Step>(ring: &mut [i32], high: &[i32], to: usize, a: usize, b: usize)
     requires in_bounds { (to + length high.now ≤ length ring.old) × (a + length high.now ≤ length ring.old) × (b + length high.now ≤ length ring.old) }
     requires clear { Clear to (length high.now) a × Clear to (length high.now) b }
-    ensures { ring.new ≡ put_at ring.old to (high_row (length high.now) high.now (part ring.old a (length high.now)) (part ring.old b (length high.now))) }
+    ensures { ring.new ≡ put_at ring.old to (step_row S.step (length high.now) high.now (part ring.old a (length high.now)) (part ring.old b (length high.now))) }
 {
-    let n = high.len();
-    let mut x = 0;
-    while x < n {
-        ring[to + x] = high_step(high[x], ring[a + x], ring[b + x]);
-        x += 1;
-    }
-}
-
-// The same where one neighbour is missing: the other itself is added.
-pub fn end_row(ring: &mut [i32], high: &[i32], to: usize, a: usize)
-    requires { (to + length high.now ≤ length ring.old) × (a + length high.now ≤ length ring.old) × Clear to (length high.now) a }
-    ensures { ring.new ≡ put_at ring.old to (end_row (length high.now) high.now (part ring.old a (length high.now))) }
-{
-    let n = high.len();
-    let mut x = 0;
-    while x < n {
-        ring[to + x] = wrapping_add(high[x], ring[a + x]);
-        x += 1;
+    for (x, &h) in high.iter().enumerate() {
+        ring[to + x] = S::step(h, ring[a + x], ring[b + x]);
     }
 }
 
@@ -85,10 +98,8 @@ pub fn end_row(ring: &mut [i32], high: &[i32], to: usize, a: usize)
 pub fn edge_row(row: &mut [i32], odd: bool)
     ensures { row.new ≡ edge_row (length row.old) odd row.old }
 {
-    let mut x = 0;
-    while x < row.len() {
-        row[x] = edge_detail(row[x], odd);
-        x += 1;
+    for x in row.iter_mut() {
+        *x = edge_detail(*x, odd);
     }
 }
 
@@ -97,10 +108,8 @@ pub fn integrate_row(row: &mut [i32])
     ensures { row.new ≡ sum_row (length row.old) row.old }
 {
     let mut acc = 0;
-    let mut x = 0;
-    while x < row.len() {
-        acc = wrapping_add(acc, sign16(row[x]));
-        row[x] = acc;
-        x += 1;
+    for x in row.iter_mut() {
+        acc = wrapping_add(acc, sign16(*x));
+        *x = acc;
     }
 }

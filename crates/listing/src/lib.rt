@@ -1,133 +1,120 @@
 // The listing that the program `tiles` prints: document 01, 'Points on the line'.
 #![tactic(auto)]
 
-ghost use Rattle.std.specs.Prelude.{◌≡◌, [], ◌∷◌, ◌+◌, ◌≤◌, ◌<◌, length, take, IfOk};
+ghost use Rattle.std.specs.Prelude.{◌≡◌, ◌++◌, ◌+◌, ◌≤◌, ◌<◌, length, take, IfOk};
 ghost use Rattle.std.specs.Io.KnownBytes.{Consumes, IsAtEnd};
 ghost use Rattle.lists.specs.Lists.{put_at, rows};
 ghost use Rattle.format.specs.Strip.{tiles_of};
 ghost use Rattle.strip.specs.Answers.{stream_fields};
-ghost use Rattle.listing.specs.Listing.{decimal, ended, line, line_at, listing, response};
+ghost use Rattle.listing.specs.Listing.{ended, line, line_at, listing, response};
 
+use arrayvec::ArrayString;
+use itoa::Buffer;
 use std::io;
 use std::io::Read;
-use strip::{Located, TileStream};
+use strip::TileStream;
 
 // The longest input, and the bytes before the strip.
 const MOST: usize = 65536;
 
 const SIDES: usize = 8;
 
-// A byte.
-fn put(out: &mut [u8], at: usize, b: u8) -> usize
-    requires { at < length out.old }
-    ensures { (result ≡ at + 1) × (out.new ≡ put_at out.old at (b ∷ [])) }
-{
-    out[at] = b;
-    at + 1
-}
+// What is printed: text in an array, so that answering cannot run out of memory.
+type Text = ArrayString<4096>;
 
-// A number below 10 as a digit.
-fn digit(n: usize) -> u8
-    requires { n < 10 }
-    ensures { result ≡ 48 + n }
+// A number and the character after it.
+#[tactic(auto, using(crate::proofs::Text::pieces))]
+fn put_field(text: &mut Text, n: usize, end: char)
+    requires { (length text.old.bytes + 21 ≤ 4096) × (end < 128) }
+    ensures value { text.new.bytes ≡ text.old.bytes ++ ended n end }
+    ensures upper_bound { length text.new.bytes ≤ length text.old.bytes + 21 }
 {
-    48 + (n as u8)
-}
-
-// A number's decimal digits.
-fn put_number(out: &mut [u8], at: usize, n: usize) -> usize
-    requires { at + length (decimal n) ≤ length out.old }
-    ensures { (result ≡ at + length (decimal n)) × (out.new ≡ put_at out.old at (decimal n)) }
-{
-    if n < 10 {
-        return put(out, at, digit(n));
-    }
-    let next = put_number(out, at, n / 10);
-    put(out, next, digit(n % 10))
-}
-
-// A number and the byte after it.
-fn put_field(out: &mut [u8], at: usize, n: usize, end: u8) -> usize
-    requires { at + 21 ≤ length out.old }
-    ensures value { (result ≡ at + length (ended n end)) × (out.new ≡ put_at out.old at (ended n end)) }
-    ensures upper_bound { result ≤ at + 21 }
-{
-    let next = put_number(out, at, n);
-    put(out, next, end)
+    let mut digits = Buffer::new();
+    text.push_str(digits.format(n));
+    text.push(end);
 }
 
 // The line of a tile.
-fn put_tile(out: &mut [u8], at: usize, tile: TileStream) -> usize
-    requires { at + 126 ≤ length out.old }
-    ensures value { (result ≡ at + length (line (stream_fields tile))) × (out.new ≡ put_at out.old at (line (stream_fields tile))) }
-    ensures upper_bound { result ≤ at + 126 }
+#[tactic(auto, using(crate::proofs::Text::pieces))]
+fn put_tile(text: &mut Text, tile: TileStream)
+    requires { length text.old.bytes + 126 ≤ 4096 }
+    ensures value { text.new.bytes ≡ text.old.bytes ++ line (stream_fields tile) }
+    ensures upper_bound { length text.new.bytes ≤ length text.old.bytes + 126 }
 {
-    let offset = put_field(out, at, tile.offset, b' ');
-    let length = put_field(out, offset, tile.length, b' ');
-    let x = put_field(out, length, tile.x, b' ');
-    let y = put_field(out, x, tile.y, b' ');
-    let width = put_field(out, y, tile.width, b' ');
-    put_field(out, width, tile.height, b'\n')
+    put_field(text, tile.offset, ' ');
+    put_field(text, tile.length, ' ');
+    put_field(text, tile.x, ' ');
+    put_field(text, tile.y, ' ');
+    put_field(text, tile.width, ' ');
+    put_field(text, tile.height, '\n');
 }
 
 // The lines of the tiles in order.
-fn put_tiles(out: &mut [u8], at: usize, located: Located) -> usize
-    requires { (at + 2016 ≤ length out.old) × (located.count ≤ 16) × (length located.tiles ≡ 16) }
-    ensures value { (result ≡ at + length (rows located.count (line_at located.tiles))) × (out.new ≡ put_at out.old at (rows located.count (line_at located.tiles))) }
-    ensures upper_bound { result ≤ at + 2016 }
+#[tactic(auto, using(crate::proofs::Text::pieces))]
+fn put_tiles(text: &mut Text, tiles: &[TileStream])
+    requires { (length text.old.bytes + 2016 ≤ 4096) × (length tiles.now ≤ 16) }
+    ensures { text.new.bytes ≡ text.old.bytes ++ rows (length tiles.now) (line_at tiles.now) }
 {
-    let mut next = at;
-    let mut i = 0;
-    while i < located.count {
-        let tile = located.tiles[i];
-        next = put_tile(out, next, tile);
-        i += 1;
+    for tile in tiles {
+        put_tile(text, *tile);
     }
-    next
-}
-
-// A run of bytes.
-fn put_bytes(out: &mut [u8], at: usize, text: &[u8]) -> usize
-    requires { at + length text.now ≤ length out.old }
-    ensures { (result ≡ at + length text.now) × (out.new ≡ put_at out.old at text.now) }
-{
-    let mut i = 0;
-    while i < text.len() {
-        out[at + i] = text[i];
-        i += 1;
-    }
-    at + text.len()
 }
 
 // The listing of a strip in a frame.
-fn list_tiles(strip: &[u8], full_w: usize, full_h: usize, out: &mut [u8]) -> usize
-    requires { 4096 ≤ length out.old }
-    ensures value { (result ≡ length (listing (tiles_of strip.now full_w full_h))) × (out.new ≡ put_at out.old 0 (listing (tiles_of strip.now full_w full_h))) }
-    ensures upper_bound { result ≤ 4096 }
+#[tactic(auto, using(crate::proofs::Text::pieces, crate::proofs::Text::listing_is))]
+fn list_tiles(strip: &[u8], full_w: usize, full_h: usize) -> Text
+    ensures { result.bytes ≡ listing (tiles_of strip.now full_w full_h) }
 {
-    let located = strip::find_streams(strip, full_w, full_h);
-    let title = put_bytes(out, 0, b"tiles ");
-    let first = put_field(out, title, located.count, b'\n');
-    put_tiles(out, first, located)
+    let mut text = Text::new();
+    text.push_str("tiles ");
+    match strip::find_streams(strip, full_w, full_h) {
+        Ok(tiles) => {
+            put_field(&mut text, tiles.len(), '\n');
+            put_tiles(&mut text, tiles.as_slice());
+        }
+        Err(_) => put_field(&mut text, 0, '\n'),
+    }
+    text
+}
+
+// A text of one line.
+fn told(words: &str) -> Text
+    requires { length words.now ≤ 4096 }
+    ensures { result.bytes ≡ words.now }
+{
+    let mut text = Text::new();
+    text.push_str(words);
+    text
 }
 
 // What the program prints for an input.
+#[tactic(auto, unfolding(crate::specs::Listing::response))]
+fn answer(input: &[u8]) -> Text
+    ensures { result.bytes ≡ response input.now }
+{
+    if MOST < input.len() {
+        return told("too long\n");
+    }
+    if input.len() < SIDES {
+        return told("too short\n");
+    }
+    let full_w = words::le32(input, 0);
+    let full_h = words::le32(input, 4);
+    list_tiles(&input[SIDES..], full_w, full_h)
+}
+
+// The same at the start of a buffer: how many bytes.
 pub fn respond(input: &[u8], out: &mut [u8; 4096]) -> usize
     ensures value { (result ≡ length (response input.now)) × (result ≤ length out.new) }
     ensures out_after { out.new ≡ put_at out.old 0 (response input.now) }
 {
-    if MOST < input.len() {
-        return put_bytes(out, 0, b"too long\n");
-    }
-    if input.len() < SIDES {
-        return put_bytes(out, 0, b"too short\n");
-    }
-    let full_w = words::le32(input, 0);
-    let full_h = words::le32(input, 4);
-    list_tiles(&input[SIDES..], full_w, full_h, out)
+    let text = answer(input);
+    let n = text.len();
+    out[..n].copy_from_slice(text.as_str().as_bytes());
+    n
 }
 
-// Reads until the buffer is full or the input ends, however the input is cut into reads: how many bytes then stand at the buffer's start.
+// Reads until the buffer is full (std's `read_to_end` wants the heap) or the input ends, however the input is cut into reads: how many bytes then stand at the buffer's start.
 fn read_full<R: Read>(input: &mut R, buf: &mut [u8]) -> io::Result<usize>
     ensures in_bounds { IfOk result (λ n. n ≤ length buf.new) }
     ensures bytes { IfOk result (λ n. Consumes (R.remaining input.old) (R.remaining input.new) (take n buf.new)) }
@@ -148,7 +135,5 @@ fn read_full<R: Read>(input: &mut R, buf: &mut [u8]) -> io::Result<usize>
 pub fn run(rt: &(impl Input + Print)) -> io::Result<()> {
     let mut input = [0u8; 65537];
     let n = read_full(&mut rt.reader(), &mut input)?;
-    let mut out = [0u8; 4096];
-    let length = respond(&input[..n], &mut out);
-    rt.write_all(&out[..length])
+    rt.print(answer(&input[..n]))
 }

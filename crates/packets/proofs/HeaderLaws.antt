@@ -10,11 +10,6 @@ use Rattle.format.specs.Packets.{tag, zero4, kind, zero6, blocks, marker, zero8,
 use Rattle.format.specs.Refusals.{each, record_refusal, packet_refusal}
 
 module _ (p : List ℕ) where
-  -- where the tag and the first zero are right, the last zero is left to test
-  pub last-zero : (t u v : ℕ) → t ≡ tag p → u ≡ zero4 p → v ≡ zero6 p → t ≡ 4 → u ≡ 0
-      → not (eqb v 0) ≡ (not (eqb (tag p) 4) || not (eqb (zero4 p) 0) || not (eqb (zero6 p) 0))
-  last-zero t u v a b c e f = rw (← a, ← b, ← c, e, f) refl
-
   -- a packet whose header is right is refused by its records alone
   pub header-right : 16 ≤ length p → padding p ≡ 0 → (not (eqb (tag p) 4) || not (eqb (zero4 p) 0) || not (eqb (zero6 p) 0)) ≡ false
       → (eqb (kind p) 1 || eqb (kind p) 3) ≡ true → (eqb (blocks p) 0 || ltb 30000 (blocks p)) ≡ false

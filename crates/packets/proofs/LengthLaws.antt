@@ -1,55 +1,56 @@
 -- Laws of the lengths that the code answers: what they say of a stream and of its refusal. Assumes nothing.
-use mathlib.Core.Path.{◌≡◌, refl, sym, ap, ◌∙◌}
-use mathlib.Core.List.{List}
-use Prim.Native.Nat.{ℕ, ◌*◌, ◌≤◌}
-use lib.ListN.{length}
-use borrow.Author.Tests.{le-ltb}
-use Rattle.format.specs.Sizes.{green, red, plane_rows_of, plane_columns, work_length}
+use Rattle.std.proofs.Common.{Ok, Err, ◌≡◌, refl, sym, ap, ◌∙◌, List, ℕ, zero, suc, ◌≤◌, length}
 use Rattle.format.specs.Strip.{width, coded_height}
 use Rattle.format.specs.Refusals.{◌▷◌, large_refusal, short_refusal, directory_refusal, packets_refusal, refusal}
+use Rattle.format.specs.Tile as tile
 use Rattle.format.specs.Tile.{lengths_by, lengths_of}
-use Rattle.format.proofs.Enough.{at-most-3, measured, measured-long, refusal-after, refused-whatever-is-lent}
-use Rattle.packets.specs.Answers.{code_lengths, short_of}
+use Rattle.format.proofs.Enough.{measured, measured-long, refusal-after, refused-whatever-is-lent}
+use Rattle.refusals.specs.declared.Refusal.{Refusal}
+use Rattle.refusals.specs.Number.{number_of}
+use Rattle.refusals.proofs.Laws.{not_zero}
+use Rattle.packets.specs.Answers.{told, short_of}
 use Rattle.packets.specs.declared.Lengths.{Lengths}
 
--- those of a size whose planes are not too large
-pub measured-lengths : (w H rows full colour work : ℕ)
-    → rows ≡ plane_rows_of H → full ≡ plane_rows_of H * plane_columns w green → colour ≡ plane_rows_of H * plane_columns w red → work ≡ work_length w H
-    → full ≤ 134217728
-    → ◌≡◌ {A = Lengths}
-    (record { refusal = 0; width = w; height = H; rows = rows; green = full; red = colour; blue = colour; work = work })
-    (code_lengths (lengths_by (large_refusal w H) w H))
-unfolding large_refusal
-measured-lengths w H rows full colour work r f k n small =
-    let size : plane_rows_of H * w ≤ 134217728 = rw (← f) small in
-    rw (r, f, k, n, le-ltb _ _ size) refl
+-- ---- by the coded size
+refusal-is : (k w H : ℕ) → (lengths_by k w H).refusal ≡ k
+refusal-is zero w H = refl
+refusal-is (suc k) w H = refl
 
--- where no number refuses the size, a short slice is one that document 01's refusal 4 means
-pub short-by : (w H green_n red_n blue_n work_n : ℕ) → large_refusal w H ≡ 0
-    → short_of (code_lengths (lengths_by (large_refusal w H) w H)) green_n red_n blue_n work_n ≡ short_refusal w H green_n red_n blue_n work_n
+pub size_refused : (w H : ℕ) (e : Refusal) → told (Err e) ≡ lengths_by (large_refusal w H) w H → number_of e ≡ large_refusal w H
+size_refused w H e is = ap (λ (n : tile.Lengths). n.refusal) is ∙ refusal-is (large_refusal w H) w H
+
+pub size_accepted : (w H : ℕ) (need : Lengths) → told (Ok need) ≡ lengths_by (large_refusal w H) w H → large_refusal w H ≡ 0
+size_accepted w H need is = sym (refusal-is (large_refusal w H) w H) ∙ sym (ap (λ (n : tile.Lengths). n.refusal) is)
+
+-- a short slice is one that document 01's refusal 4 means
+pub short_is : (w H : ℕ) (need : Lengths) → told (Ok need) ≡ lengths_by 0 w H → (green_n red_n blue_n work_n : ℕ) → short_of need green_n red_n blue_n work_n ≡ short_refusal w H green_n red_n blue_n work_n
 unfolding short_of short_refusal
-short-by w H green_n red_n blue_n work_n none = rw none refl
+short_is w H need is green_n red_n blue_n work_n =
+    rw (
+      ap (λ (n : tile.Lengths). n.green) is,
+      ap (λ (n : tile.Lengths). n.red) is,
+      ap (λ (n : tile.Lengths). n.blue) is,
+      ap (λ (n : tile.Lengths). n.work) is,
+    ) refl
 
-module _ (s : List ℕ) (need : Lengths) (is : need ≡ code_lengths (lengths_of s)) where
-  number : need.refusal ≡ (lengths_of s).refusal
-  number = ap (λ (n : Lengths). n.refusal) is
+-- ---- a refusal of a stream's lengths is the stream's, whatever is lent
+pub lengths_refused : (s : List ℕ) (e : Refusal) → told (Err e) ≡ lengths_of s → (green_n red_n blue_n work_n : ℕ) → number_of e ≡ refusal s green_n red_n blue_n work_n
+lengths_refused s e is green_n red_n blue_n work_n =
+    let number = ap (λ (n : tile.Lengths). n.refusal) is in
+    number ∙ sym (refused-whatever-is-lent s green_n red_n blue_n work_n (λ z. not_zero e (number ∙ z)))
 
-  pub number_small : need.refusal ≤ 3
-  number_small = rw number (at-most-3 s)
+module _ (s : List ℕ) (need : Lengths) (is : told (Ok need) ≡ lengths_of s) where
+  none : (lengths_of s).refusal ≡ 0
+  none = sym (ap (λ (n : tile.Lengths). n.refusal) is)
 
-  pub needed-long : need.refusal ≡ 0 → 128 ≤ length s
-  needed-long none = measured-long s (sym number ∙ none)
+  pub needed_long : 128 ≤ length s
+  needed_long = measured-long s none
 
+  -- they are those of the coded size
+  pub needed_is : told (Ok need) ≡ lengths_by 0 (width s) (coded_height s)
+  needed_is = is ∙ measured s none
+
+  -- without one, the lent slices, directory and packets decide
   module _ (green_n red_n blue_n work_n : ℕ) where
-    -- a refusal of the lengths is the stream's
-    pub needed-refused : (need.refusal ≡ 0 → ⊥) → need.refusal ≡ refusal s green_n red_n blue_n work_n
-    needed-refused some = number ∙ sym (refused-whatever-is-lent s green_n red_n blue_n work_n (λ e. some (number ∙ e)))
-
-    short-is : need.refusal ≡ 0 → short_of need green_n red_n blue_n work_n ≡ short_refusal (width s) (coded_height s) green_n red_n blue_n work_n
-    unfolding short_of short_refusal
-    short-is none = rw (is ∙ ap code_lengths (measured s (sym number ∙ none))) refl
-
-    -- without one, the lent slices, directory and packets decide
-    pub needed-rest : need.refusal ≡ 0
-        → refusal s green_n red_n blue_n work_n ≡ (short_of need green_n red_n blue_n work_n ▷ directory_refusal s ▷ packets_refusal s)
-    needed-rest none = refusal-after s green_n red_n blue_n work_n ∙ rw (sym number ∙ none, short-is none) refl
+    pub needed_rest : refusal s green_n red_n blue_n work_n ≡ (short_of need green_n red_n blue_n work_n ▷ directory_refusal s ▷ packets_refusal s)
+    needed_rest = refusal-after s green_n red_n blue_n work_n ∙ rw (none, short_is (width s) (coded_height s) need needed_is green_n red_n blue_n work_n) refl

@@ -1,31 +1,42 @@
 // The directory of a stream: document 01, 'Directory and packets'.
-ghost use Rattle.std.specs.Prelude.{◌≡◌, ◌+◌, ◌*◌, ◌^◌, ◌<◌, ◌≤◌, not, length};
+ghost use Rattle.std.specs.Prelude.{◌≡◌, ◌+◌, ◌*◌, ◌^◌, ◌<◌, ◌≤◌, not, length, IfOk};
 ghost use Rattle.format.specs.Packets.{sum, entry_count, block_size, length_place, entry_length, block_at, group_start, packet_start, packet_length, has_entry};
 ghost use Rattle.format.specs.Refusals.{on, each, entry_refusal, group_refusal, directory_refusal};
-ghost use Rattle.packets.specs.Answers.{entry_of, entry_number};
+ghost use Rattle.refusals.specs.Number.{code_of};
 
-use fields::group_size;
+use fields::Stream;
+use refusals::Refusal;
 use strip::TileStream;
-use words::field;
 
-// Whether a group has an entry; a missing one is refusal 9.
+// The place of an entry in a directory: a group and an index in it.
 #[derive(Clone, Copy)]
-pub enum DirEntry {
-    Present,
-    Missing,
+pub struct Entry {
+    pub group: usize,
+    pub index: usize,
+    pub ghost in_groups: { group < 5 },
+    pub ghost in_block: { index < 16 },
+}
+
+// A stream whose directory no check refuses.
+#[derive(Drop)]
+pub struct Listed<'a> {
+    pub stream: Stream<'a>,
+    pub ghost checked: { directory_refusal stream ≡ 0 },
 }
 
 // The entry count of the block at a byte.
-fn entry_count(stream: &[u8], at: usize) -> usize
-    requires { (128 ≤ length stream.now) × (at < 2 ^ 32) }
+#[tactic(auto, unfolding(format::specs::Packets::entry_count))]
+fn entry_count(stream: &Stream<'_>, at: usize) -> usize
+    requires { at < 2 ^ 32 }
     ensures { (result ≡ entry_count stream.now at) × (result < 16) }
 {
-    field(stream, 8 * at, 8) % 16
+    stream.bits(8 * at, 8) % 16
 }
 
 // The size of the block at a byte.
-fn block_size(stream: &[u8], at: usize) -> usize
-    requires { (128 ≤ length stream.now) × (at < 2 ^ 32) }
+#[tactic(auto, unfolding(format::specs::Packets::block_size))]
+fn block_size(stream: &Stream<'_>, at: usize) -> usize
+    requires { at < 2 ^ 32 }
     ensures { (result ≡ block_size stream.now at) × (result ≤ 32) }
 {
     let n = entry_count(stream, at);
@@ -33,6 +44,7 @@ fn block_size(stream: &[u8], at: usize) -> usize
 }
 
 // Where a block has the length of an entry.
+#[tactic(auto, unfolding(format::specs::Packets::length_place))]
 fn length_place(index: usize) -> usize
     requires { index < 16 }
     ensures { (result ≡ length_place index) × (result < 64) }
@@ -45,142 +57,129 @@ fn length_place(index: usize) -> usize
 }
 
 // The length in bytes of an entry of the block at a byte.
-fn entry_length(stream: &[u8], at: usize, index: usize) -> usize
-    requires { (128 ≤ length stream.now) × (at < 2 ^ 32) × (index < 16) }
+#[tactic(auto, unfolding(format::specs::Packets::entry_length))]
+fn entry_length(stream: &Stream<'_>, at: usize, index: usize) -> usize
+    requires { (at < 2 ^ 32) × (index < 16) }
     ensures { (result ≡ entry_length stream.now at index) × (result < 2 ^ 28) }
 {
-    field(stream, 8 * (at + length_place(index)), 24) * 16
+    stream.bits(8 * (at + length_place(index)), 24) * 16
 }
 
 // The block of a group.
-fn block_at(stream: &[u8], group: usize) -> usize
-    requires { (128 ≤ length stream.now) × (group < 5) }
+#[tactic(auto, using(format::proofs::DirectoryLaws::block_none, format::proofs::DirectoryLaws::block_on))]
+fn block_at(stream: &Stream<'_>, group: usize) -> usize
+    requires { group < 5 }
     ensures { (result ≡ block_at stream.now group) × (result < 2 ^ 31) }
 {
     let mut at = TileStream::DIRECTORY;
-    let mut i = 0;
-    while i < group {
+    for i in 0..group {
         at += block_size(stream, at);
-        i += 1;
     }
     at
 }
 
 // Where the packets of a group start.
-fn group_start(stream: &[u8], group: usize) -> usize
-    requires { (128 ≤ length stream.now) × (group < 5) }
+fn group_start(stream: &Stream<'_>, group: usize) -> usize
+    requires { group < 5 }
     ensures { (result ≡ group_start stream.now group) × (result < 2 ^ 40) }
 {
     let mut start = TileStream::HEADER;
-    let mut i = 0;
-    while i < group {
-        start += group_size(stream, i);
-        i += 1;
+    for i in 0..group {
+        start += stream.group_size(i);
     }
     start
 }
 
 // The length of the entries before one of the block at a byte.
-fn entries(stream: &[u8], at: usize, index: usize) -> usize
-    requires { (128 ≤ length stream.now) × (at < 2 ^ 32) × (index < 16) }
+fn entries(stream: &Stream<'_>, at: usize, index: usize) -> usize
+    requires { (at < 2 ^ 32) × (index < 16) }
     ensures { (result ≡ sum (entry_length stream.now at) index) × (result ≤ index * 2 ^ 28) }
 {
     let mut total = 0;
-    let mut i = 0;
-    while i < index {
+    for i in 0..index {
         total += entry_length(stream, at, i);
-        i += 1;
     }
     total
 }
 
 // Where a packet of a group starts.
-pub fn packet_start(stream: &[u8], group: usize, index: usize) -> usize
-    requires { (128 ≤ length stream.now) × (group < 5) × (index < 16) }
-    ensures { (result ≡ packet_start stream.now group index) × (result < 2 ^ 41) }
+#[tactic(auto, unfolding(format::specs::Packets::packet_start))]
+pub fn packet_start(stream: &Stream<'_>, entry: Entry) -> usize
+    ensures { (result ≡ packet_start stream.now entry.group entry.index) × (result < 2 ^ 41) }
 {
-    group_start(stream, group) + entries(stream, block_at(stream, group), index)
+    group_start(stream, entry.group) + entries(stream, block_at(stream, entry.group), entry.index)
 }
 
 // The length of a packet of a group.
-pub fn packet_length(stream: &[u8], group: usize, index: usize) -> usize
-    requires { (128 ≤ length stream.now) × (group < 5) × (index < 16) }
-    ensures { (result ≡ packet_length stream.now group index) × (result < 2 ^ 28) }
+#[tactic(auto, unfolding(format::specs::Packets::packet_length))]
+pub fn packet_length(stream: &Stream<'_>, entry: Entry) -> usize
+    ensures { (result ≡ packet_length stream.now entry.group entry.index) × (result < 2 ^ 28) }
 {
-    entry_length(stream, block_at(stream, group), index)
+    entry_length(stream, block_at(stream, entry.group), entry.index)
 }
 
-// Look an entry of a group up.
-pub fn find_entry(stream: &[u8], group: usize, index: usize) -> DirEntry
-    requires { (128 ≤ length stream.now) × (group < 5) × (index < 16) }
-    ensures value { result ≡ entry_of stream.now group index }
-    ensures number { entry_number result ≡ on (not (has_entry stream.now group index)) 9 }
+// A group has an entry of an index.
+#[tactic(auto, unfolding(format::specs::Packets::has_entry))]
+pub fn check_present(stream: &Stream<'_>, entry: Entry) -> Result<(), Refusal>
+    ensures { code_of result ≡ on (not (has_entry stream.now entry.group entry.index)) 9 }
 {
-    let at = block_at(stream, group);
+    let at = block_at(stream, entry.group);
     let count = entry_count(stream, at);
-    if count <= index {
-        return DirEntry::Missing;
+    if count <= entry.index {
+        return Err(Refusal::MissingPacket);
     }
-    DirEntry::Present
+    Ok(())
 }
 
 // Each of the first packets of a group lies within the stream.
-fn check_entries(stream: &[u8], group: usize, count: usize) -> u32
-    requires { (128 ≤ length stream.now) × (group < 5) × (count < 16) }
-    ensures { result ≡ each (entry_refusal stream.now group) count }
+fn check_entries(stream: &Stream<'_>, group: usize, count: usize) -> Result<(), Refusal>
+    requires { (group < 5) × (count < 16) }
+    ensures { code_of result ≡ each (entry_refusal stream.now group) count }
 {
     let at = block_at(stream, group);
     let mut start = group_start(stream, group);
-    let mut index = 0;
-    while index < count {
+    for index in 0..count {
         let n = entry_length(stream, at, index);
         if stream.len() < start + n {
-            return 7;
+            return Err(Refusal::EntryPastEnd);
         }
         start += n;
-        index += 1;
     }
-    0
+    Ok(())
 }
 
 // A group: its block, its entries, their length.
-fn check_group(stream: &[u8], group: usize) -> u32
-    requires { (128 ≤ length stream.now) × (group < 5) }
-    ensures { result ≡ group_refusal stream.now group }
+#[tactic(auto, using(refusals::proofs::Laws::exits_first, format::proofs::DirectoryLaws::lengths_read), unfolding(format::specs::Refusals::group_refusal))]
+fn check_group(stream: &Stream<'_>, group: usize) -> Result<(), Refusal>
+    requires { group < 5 }
+    ensures { code_of result ≡ group_refusal stream.now group }
 {
     let at = block_at(stream, group);
     if stream.len() < at + 16 {
-        return 5;
+        return Err(Refusal::DirectoryTooShort);
     }
     let count = entry_count(stream, at);
     if 9 < count {
-        return 6;
+        return Err(Refusal::TooManyEntries);
     }
     if stream.len() < at + block_size(stream, at) {
-        return 5;
+        return Err(Refusal::DirectoryTooShort);
     }
-    let bad = check_entries(stream, group, count);
-    if bad != 0 {
-        return bad;
+    check_entries(stream, group, count)?;
+    if stream.group_size(group) < entries(stream, at, count) {
+        return Err(Refusal::EntriesPastGroup);
     }
-    if group_size(stream, group) < entries(stream, at, count) {
-        return 8;
-    }
-    0
+    Ok(())
 }
 
 // The five groups in turn.
-pub fn parse_directory(stream: &[u8]) -> u32
-    requires { 128 ≤ length stream.now }
-    ensures { result ≡ directory_refusal stream.now }
+#[tactic(auto, using(refusals::proofs::Laws::exits_each, format::proofs::TurnLaws::each_none, format::proofs::TurnLaws::each_on), unfolding(format::specs::Refusals::directory_refusal))]
+pub fn parse_directory<'a>(stream: Stream<'a>) -> Result<Listed<'a>, Refusal>
+    ensures refusal { code_of result ≡ directory_refusal stream.entry }
+    ensures same { IfOk result (λ l. l.stream ≡ stream.entry) }
 {
-    let mut group = 0;
-    while group < 5 {
-        let bad = check_group(stream, group);
-        if bad != 0 {
-            return bad;
-        }
-        group += 1;
+    for group in 0..5 {
+        check_group(&stream, group)?;
     }
-    0
+    Ok(Listed { stream })
 }

@@ -1,108 +1,88 @@
 // A packet's header and its records: document 01, 'Directory and packets'.
-ghost use Rattle.std.specs.Prelude.{◌≡◌, ◌+◌, ◌*◌, ◌^◌, ◌<◌, ◌≤◌, not, ◌||◌, length, ltb, eqb};
+ghost use Rattle.std.specs.Prelude.{◌≡◌, ◌+◌, ◌*◌, ◌^◌, ◌<◌, ◌≤◌, not, ◌||◌, length, ltb, eqb, IfOk};
 ghost use Rattle.format.specs.Packets.{tag, zero4, kind, zero6, blocks, marker, zero8};
 ghost use Rattle.format.specs.Refusals.{each, record_refusal, packet_refusal};
+ghost use Rattle.refusals.specs.Number.{code_of};
 
-use fields::{
-    blocks, first_payload, kind, marker, padding, record_bit, record_length, size_of, tag, zero4,
-    zero6, zero8,
-};
+use fields::Packet;
+use refusals::Refusal;
 
 // Tag not 4, or one of the zeros after it not 0.
-fn wrong_tag(packet: &[u8]) -> bool
-    requires { 16 ≤ length packet.now }
+fn wrong_tag(packet: &Packet<'_>) -> bool
     ensures { result ≡ (not (eqb (tag packet.now) 4) || not (eqb (zero4 packet.now) 0) || not (eqb (zero6 packet.now) 0)) }
 {
-    if tag(packet) != 4 {
-        return true;
-    }
-    if zero4(packet) != 0 {
-        return true;
-    }
-    zero6(packet) != 0
+    packet.tag() != 4 || packet.zero4() != 0 || packet.zero6() != 0
 }
 
 // Kinds are 1 and 3.
-fn known_kind(packet: &[u8]) -> bool
-    requires { 16 ≤ length packet.now }
+fn known_kind(packet: &Packet<'_>) -> bool
     ensures { result ≡ (eqb (kind packet.now) 1 || eqb (kind packet.now) 3) }
 {
-    let components = kind(packet);
-    if components == 1 {
-        return true;
-    }
-    components == 3
+    matches!(packet.kind(), 1 | 3)
 }
 
 // A block count of 0 or above 30,000.
-fn wrong_blocks(packet: &[u8]) -> bool
-    requires { 16 ≤ length packet.now }
+fn wrong_blocks(packet: &Packet<'_>) -> bool
     ensures { result ≡ (eqb (blocks packet.now) 0 || ltb 30000 (blocks packet.now)) }
 {
-    let count = blocks(packet);
-    if count == 0 {
-        return true;
-    }
-    30000 < count
+    let count = packet.blocks();
+    count == 0 || 30000 < count
 }
 
 // Marker not 16, or the zeros after it not 0.
-fn wrong_marker(packet: &[u8]) -> bool
-    requires { 16 ≤ length packet.now }
+fn wrong_marker(packet: &Packet<'_>) -> bool
     ensures { result ≡ (not (eqb (marker packet.now) 16) || not (eqb (zero8 packet.now) 0)) }
 {
-    if marker(packet) != 16 {
-        return true;
-    }
-    zero8(packet) != 0
+    packet.marker() != 16 || packet.zero8() != 0
 }
 
 // Each record's header bits and bytes lie within the packet.
-fn check_records(packet: &[u8]) -> u32
-    requires { (16 ≤ length packet.now) × (length packet.now < 2 ^ 29) }
-    ensures { result ≡ each (record_refusal packet.now) (blocks packet.now) }
+fn check_records(packet: &Packet<'_>) -> Result<(), Refusal>
+    requires { length packet.now < 2 ^ 29 }
+    ensures { code_of result ≡ each (record_refusal packet.now) (blocks packet.now) }
 {
-    let count = blocks(packet);
-    let mut at = first_payload(packet);
-    let mut i = 0;
-    while i < count {
-        if packet.len() * 8 < record_bit(packet, i + 1) {
-            return 11;
+    let mut at = packet.first_payload();
+    for i in 0..packet.blocks() {
+        if packet.len() * 8 < packet.record_bit(i + 1) {
+            return Err(Refusal::RecordHeaderPastEnd);
         }
-        let n = record_length(packet, i);
+        let n = packet.record_length(i);
         if packet.len() < at + n {
-            return 18;
+            return Err(Refusal::RecordPastEnd);
         }
         at += n;
-        i += 1;
     }
-    0
+    Ok(())
 }
 
 // The refusal of a packet by itself.
-pub fn parse_packet(packet: &[u8]) -> u32
-    ensures { result ≡ packet_refusal packet.now }
+#[tactic(auto, unfolding(format::specs::Refusals::packet_refusal))]
+pub fn parse_packet(bytes: &[u8]) -> Result<Packet<'_>, Refusal>
+    ensures refusal { code_of result ≡ packet_refusal bytes.now }
+    ensures same { IfOk result (λ p. p ≡ bytes.now) }
 {
-    if packet.len() < 16 {
-        return 10;
+    if bytes.len() < 16 {
+        return Err(Refusal::PacketTooShort);
     }
-    if padding(packet) != 0 {
-        return 12;
+    let packet = Packet::new(bytes);
+    if packet.padding() != 0 {
+        return Err(Refusal::PaddingNotZero);
     }
-    if wrong_tag(packet) {
-        return 13;
+    if wrong_tag(&packet) {
+        return Err(Refusal::WrongTag);
     }
-    if !known_kind(packet) {
-        return 14;
+    if !known_kind(&packet) {
+        return Err(Refusal::UnknownKind);
     }
-    if wrong_blocks(packet) {
-        return 15;
+    if wrong_blocks(&packet) {
+        return Err(Refusal::WrongBlockCount);
     }
-    if wrong_marker(packet) {
-        return 16;
+    if wrong_marker(&packet) {
+        return Err(Refusal::WrongMarker);
     }
-    if size_of(packet) != packet.len() {
-        return 17;
+    if packet.size_of() != bytes.len() {
+        return Err(Refusal::WrongPacketSize);
     }
-    check_records(packet)
+    check_records(&packet)?;
+    Ok(packet)
 }

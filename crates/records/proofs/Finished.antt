@@ -3,7 +3,7 @@ use mathlib.Core.Path.{◌≡◌, refl, sym, ap, ◌∙◌}
 use mathlib.Core.Bool.{Bool, true, false, cond}
 use mathlib.Core.List.{List}
 use Prim.Native.Nat.{ℕ, suc, ◌+◌, ◌-◌, ◌*◌, ◌≤◌, ◌<◌}
-use native.Mathlib.Nat.{mul-le-mul_right, zero-mul}
+use native.Mathlib.Nat.{mul-le-mul_right}
 use native.Mathlib.Omega.{arith}
 use borrow.Author.Tests.{ltb-true, ltb-false}
 use lib.Dec.{ltb}
@@ -14,27 +14,29 @@ use Rattle.wrap32.proofs.Laws.{of-cond}
 use Rattle.wrap32.specs.Edge.{edge_detail}
 use Rattle.lists.specs.Lists.{part}
 use Rattle.lists.proofs.Tab.{length-tab, length-put, tab-same, tab-part, get_d_part}
-use Rattle.lists.proofs.Put.{put-start}
 use Rattle.lists.proofs.Part.{part-put-within, part-put-below, part-put-above}
 use Rattle.format.specs.Table.{ends}
 use Rattle.lifting.specs.Lift.{edge_at, edge_row, sum_at, sum_row}
-use Rattle.records.specs.Finished.{edged, edged_rows, finished_by}
+use Rattle.records.specs.Finished.{edges_end, edged, edged_rows, finished_by}
+use Rattle.records.specs.declared.EdgeRows.{EdgeRows}
 use Rattle.records.specs.declared.Finish.{Finish}
+use Rattle.records.specs.declared.Finish.TheVariants.{Sums, Edges, Nothing}
 
--- where no row gets E, nothing is done
-pub finished-none : (f : Finish) (cols i : ℕ) (l : List ℤ) → f.sums ≡ false → f.count ≡ 0 → finished_by f cols i l ≡ l
+pub finished-none : (cols i : ℕ) (l : List ℤ) → finished_by Nothing cols i l ≡ l
 unfolding finished_by
-finished-none f cols i l s c =
-    let a = f.first * cols in
-    let n : f.count * cols ≡ 0 = ap (λ (x : ℕ). x * cols) c ∙ zero-mul cols in
-    rw (s, n)
-    (of-cond (λ (t : List ℤ). t ≡ l) (ends i f.last) _ _ (λ _. sym (put-start l a (edge_at f.odd (part l a 0)))) (λ _. refl))
+finished-none cols i l = refl
 
-pub finished-sums : (f : Finish) (cols i : ℕ) (l : List ℤ) → f.sums ≡ true → finished_by f cols i l ≡ sum_row (length l) l
+pub finished-sums : (cols i : ℕ) (l : List ℤ) → finished_by Sums cols i l ≡ sum_row (length l) l
 unfolding finished_by
-finished-sums f cols i l s = rw s
+finished-sums cols i l = refl
 
-module _ (f : Finish) (cols i : ℕ) (l : List ℤ) (room : (f.first + f.count) * cols ≤ length l) where
+-- E's mode, where a row gets it
+abbrev pub mode_of : Finish → Bool
+mode_of Sums = false
+mode_of (Edges e) = e.odd
+mode_of Nothing = false
+
+module _ (f : EdgeRows) (cols i : ℕ) (l : List ℤ) (room : (f.first + f.count) * cols ≤ length l) where
   abbrev a : ℕ
   a = f.first * cols
 
@@ -47,11 +49,9 @@ module _ (f : Finish) (cols i : ℕ) (l : List ℤ) (room : (f.first + f.count) 
   fits : a + length run ≤ length l
   fits = omega (arith, room, length-tab n (edge_at f.odd (part l a n)))
 
-  pub length-finished : length (finished_by f cols i l) ≡ length l
+  length-edged : length (finished_by (Edges f) cols i l) ≡ length l
   unfolding finished_by
-  length-finished =
-      of-cond (λ (t : List ℤ). length t ≡ length l) f.sums _ _ (λ _. length-tab (length l) (sum_at l))
-      (λ _. of-cond (λ (t : List ℤ). length t ≡ length l) (ends i f.last) _ _ (λ _. length-put l a run fits) (λ _. refl))
+  length-edged = of-cond (λ (t : List ℤ). length t ≡ length l) (ends i f.last) _ _ (λ _. length-put l a run fits) (λ _. refl)
 
   module _ (j : ℕ) where
     -- row j as it was, and with E
@@ -80,10 +80,9 @@ module _ (f : Finish) (cols i : ℕ) (l : List ℤ) (room : (f.first + f.count) 
             ∙ ap (λ (y : ℕ). get_or l y (pos 0)) k
             ∙ sym (get_d_part l (j * cols) cols x (pos 0) c)
 
-    pub finished-row : f.sums ≡ false
-        → part (finished_by f cols i l) (j * cols) cols ≡ cond (edged f i j) (edge_row cols f.odd (part l (j * cols) cols)) (part l (j * cols) cols)
+    edged-row : part (finished_by (Edges f) cols i l) (j * cols) cols ≡ cond (edged (Edges f) i j) new old
     unfolding finished_by edged
-    finished-row z = rw z (by (ends i f.last) (ltb j f.first) (ltb j (f.first + f.count)) refl refl)
+    edged-row = by (ends i f.last) (ltb j f.first) (ltb j (f.first + f.count)) refl refl
       where
         by : (t u v : Bool) → ltb j f.first ≡ u → ltb j (f.first + f.count) ≡ v
             → part (cond t (edged_rows f cols l) l) (j * cols) cols ≡ cond (cond t (cond u false v) false) new old
@@ -96,3 +95,16 @@ module _ (f : Finish) (cols i : ℕ) (l : List ℤ) (room : (f.first + f.count) 
             let m = mul-le-mul_right cols (ltb-false j (f.first + f.count) q) in
             let e = length-tab n (edge_at f.odd (part l a n)) in
             part-put-above l a run fits (j * cols) cols (omega (arith, m, e))
+
+pub length-finished : (f : Finish) (cols i : ℕ) (l : List ℤ) → edges_end f * cols ≤ length l → length (finished_by f cols i l) ≡ length l
+unfolding finished_by
+length-finished Sums cols i l room = length-tab (length l) (sum_at l)
+length-finished (Edges e) cols i l room = length-edged e cols i l room
+length-finished Nothing cols i l room = refl
+
+pub finished-row : (f : Finish) (cols i : ℕ) (l : List ℤ) → edges_end f * cols ≤ length l → (j : ℕ) → (f ≡ Sums → ⊥)
+    → part (finished_by f cols i l) (j * cols) cols ≡ cond (edged f i j) (edge_row cols (mode_of f) (part l (j * cols) cols)) (part l (j * cols) cols)
+unfolding finished_by edged
+finished-row Sums cols i l room j some = absurd (some refl)
+finished-row (Edges e) cols i l room j some = edged-row e cols i l room j
+finished-row Nothing cols i l room j some = refl

@@ -1,5 +1,5 @@
 -- A level undone in the scratch, its bands back in their packet. Assumes nothing.
-use mathlib.Core.Path.{◌≡◌, refl, sym, ap, ◌∙◌, subst, transport}
+use mathlib.Core.Path.{◌≡◌, refl, sym, ap, ◌∙◌, subst}
 use mathlib.Core.Bool.{Bool}
 use mathlib.Core.List.{List, ◌++◌}
 use mathlib.Core.Logic.{inr, ⊎_elim}
@@ -92,12 +92,6 @@ module _ (d : Lead) (h m c from s to t a b : ℕ) (before mid after : List ℤ) 
     beside = λ lo hi k n x y z q. outside k n q ∙ level.beside lo hi k n x y z;
     long = ap length clear ∙ length-put mid a (zeros (b - a)) (omega (arith, many, level.long)) ∙ level.long;
   }
-
--- the same by other names
-pub ready-as : (d e : Lead) (h i m n c from f s to q t a x b y : ℕ) (before after : List ℤ) (u : Undone) → d ≡ e → h ≡ i → m ≡ n → from ≡ f → to ≡ q → a ≡ x → b ≡ y
-    → Ready d h m c from s to t a b before after u → Ready e i n c f s q t x y before after u
-ready-as d e h i m n c from f s to q t a x b y before after u de hi mn ff tq ax by =
-    transport (λ j. Ready (de j) (hi j) (mn j) c (ff j) s (tq j) t (ax j) (by j) before after u)
 
 -- ---- the bands back in their packet
 module _ (z : Plan) (place : ℕ) (l : Level) (odd : Bool) (from s to t : ℕ) (before mid after : List ℤ) (u : Undone) (r : ℕ) where

@@ -3,7 +3,7 @@ use mathlib.Core.Path.{◌≡◌, refl, sym, ap, ◌∙◌, subst}
 use mathlib.Core.Bool.{Bool, true, false}
 use mathlib.Core.List.{List}
 use mathlib.Core.Logic.{inl, inr, ⊎_elim}
-use Prim.Native.Nat.{ℕ, ◌+◌, ◌*◌, ◌/◌, ◌^◌, ◌≤◌, ◌<◌}
+use Prim.Native.Nat.{ℕ, ◌+◌, ◌*◌, ◌/◌, ◌≤◌, ◌<◌}
 use native.Mathlib.Nat.{mul-le-mul_right, mul_comm, mul_assoc}
 use native.Mathlib.Omega.{arith}
 use lib.IntN.{ℤ, pos}
@@ -13,7 +13,7 @@ use Rattle.lists.specs.Lists.{Apart, part, put_at, tab, laid}
 use Rattle.lists.proofs.Tab.{length-tab, tab-same, part-tab, length-put}
 use Rattle.lists.proofs.Part.{part-put-within, part-put-out, part-part}
 use Rattle.lists.proofs.Laid.{length-laid, laid_in, laid_same}
-use Rattle.format.specs.Sizes.{plane_rows, Tall}
+use Rattle.format.specs.Sizes.{plane_rows}
 use Rattle.format.specs.Recovery.{read_plane, d_of, l_of}
 use Rattle.passes.specs.declared.Plan.{Plan}
 use Rattle.passes.specs.Plan.{unit_of}
@@ -50,9 +50,6 @@ module _ (z : Plan) (place n : ℕ) (k : Block z place n) where
 
   units : unit_of z ≡ z.n * (z.w / 16) + z.w / 16
   units = rw k.all (omega arith)
-
-  pub rows-of-good : (z.guarded ≡ true → 1 ≤ z.n) × (z.n < 2 ^ 32)
-  rows-of-good = (λ e. omega (arith, subst (λ (g : Bool). Tall g z.n) e k.fits.0.tall), k.fits.0.few)
 
   pub some-columns : 1 ≤ c
   some-columns = omega (arith, k.fits.0.wide)

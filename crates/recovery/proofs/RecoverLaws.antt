@@ -17,18 +17,8 @@ use Rattle.passes.specs.declared.Plan.{Plan}
 use Rattle.passes.specs.Plan.{unit_of}
 use Rattle.levels.specs.Block.{group_at}
 use Rattle.returning.specs.Return.{packet_size, Numbers}
-use Rattle.recovery.specs.Recovered.{scratch_at, scratch_size, Block, Back, ColourBack, DetailsBack, Room, Recovered}
+use Rattle.recovery.specs.Recovered.{scratch_at, scratch_size, Back, ColourBack, DetailsBack, Room, Recovered}
 use Rattle.recovery.proofs.IndexLaws.{units_at, units_in, packet-starts, packet-takes}
-
--- the block of each index has room
-pub room-block : (z : Plan) (place n m full pale dark : ℕ) → Room z n full pale dark → place + 64 * unit_of z ≤ scratch_at z → m ≡ n → Block z place m
-room-block z place n m full pale dark k front e =
-    record {
-      fits = (k.fits.0, record { some = k.fits.1.some; few = k.fits.1.few; small = omega (arith, k.fits.1.small, front) });
-      all = k.all;
-      front = front;
-      room = omega (arith, k.room, e);
-    }
 
 -- groups 0 to 3 lie in their block
 in_block : (l : Level) → units_at (detail l) + units_in (detail l) ≤ 64

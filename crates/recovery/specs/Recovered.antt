@@ -1,18 +1,22 @@
 -- Levels undone in the work slice, one after the other, and the coefficients that stand in it then: document 01, 'Recovery'.
 use Rattle.std.specs.Prelude.{◌≡◌, Bool, true, cond, List, ℕ, ◌+◌, ◌-◌, ◌*◌, ◌/◌, ◌≤◌, ◌<◌, ℤ, pos, length}
 use Rattle.lists.specs.Lists.{Apart, part, tab}
+use Rattle.lifting.specs.Lift.{at}
 use Rattle.format.specs.Coefficients.{zeros}
 use Rattle.format.specs.Lifting.{Plane, Lead}
 use Rattle.format.specs.Sizes.{Colour, green, index, Level, l1, l2, l3, base, detail, final, columns, plane_rows}
 use Rattle.format.specs.Table.{height, lead, highs, hl, lh, hh, mode}
+use Rattle.format.specs.Refusals.{each}
 use Rattle.format.specs.Recovery.{read_plane, d_of, ll_of, band_of, unstep, unband, summed_back, lifted_back, out_of, picked_back}
 use Rattle.format.specs.Writing.{too_large, places, index_refusal}
 use Rattle.passes.specs.declared.Plan.{Plan}
 use Rattle.passes.specs.Plan.{unit_of, final_units, Fits}
+use Rattle.levels.specs.Steps.{leads}
 use Rattle.levels.specs.Block.{group_at}
-use Rattle.undoing.specs.Down.{low_at, high_at}
+use Rattle.undoing.specs.Down.{low_at, high_at, detail_at}
 use Rattle.returning.specs.Return.{Numbers, packet_size, bands_back, bands_fault, base_back, base_fault}
 use Rattle.returning.specs.declared.Undone.{Undone}
+use Rattle.recovery.specs.declared.Undoing.{Undoing}
 
 -- `count` rows of n numbers, the first at `from` and each `step` behind the one before it, are those of a plane
 abbrev pub RowsAt : ℕ → ℕ → ℕ → ℕ → Plane → List ℤ → Type 0
@@ -75,9 +79,41 @@ LowRows z l ll work = RowsAt (ll_place z l) (ll_step z l) (columns z.w (detail l
 abbrev pub IndexRows : Plan → ℕ → Plane → List ℤ → Type 0
 IndexRows z from out work = RowsAt from (z.w / 2) (z.w / 2) (plane_rows z.guarded z.n) out work
 
+-- what refuses row y of those that stand in a list, of c numbers each, from `from` on, with a gap of rows behind the first e
+abbrev pub row_refused : List ℤ → ℕ → ℕ → ℕ → ℕ → ℕ → ℕ
+row_refused work from e gap c y = each (λ x. too_large (at (part work (from + detail_at e gap y * c) c) x)) c
+
 -- no coefficient is back yet
 abbrev pub none : ℕ → Plane
 none c r x = pos 0
+
+-- ---- how level l of a block is undone: how far apart the rows of what came out of it are, where they stand, and where the rows of the undone level go
+abbrev pub step_in : Plan → Level → ℕ
+step_in z l3 = z.w / 2
+step_in z l2 = ll_step z l3
+step_in z l1 = ll_step z l2
+
+abbrev pub From : Plan → Level → ℕ → Type 0
+From z l3 from = from + 64 * unit_of z ≤ scratch_at z
+From z l2 from = from ≡ ll_place z l3
+From z l1 from = from ≡ ll_place z l2
+
+abbrev pub to_in : Plan → Level → ℕ → ℕ
+to_in z l3 from = scratch_at z
+to_in z l2 from = from + 2 * columns z.w (detail l2)
+to_in z l1 from = from + 2 * columns z.w (detail l1)
+
+abbrev pub undoing_of : Plan → ℕ → Level → ℕ → Undoing
+undoing_of z place l from = record {
+  c = columns z.w (detail l);
+  h = height z.guarded z.n l;
+  m = highs z.guarded l (height z.guarded z.n l);
+  leads = leads z.guarded l;
+  t = step_in z l;
+  to = to_in z l from;
+  a = group_at z place (detail l);
+  b = group_at z place (detail l) + packet_size z (detail l);
+}
 
 -- ---- level l of a block undone: its ll stands in the scratch, its bands are back in their packet, r is what refuses them; beside packet and scratch nothing has changed
 pub record LevelBack (z : Plan) (place : ℕ) (l : Level) (odd : Bool) (from s : ℕ) (before after : List ℤ) (r : ℕ) : Type 0 where

@@ -1,217 +1,173 @@
 // The coefficients of a tile from its planes, in the work slice: document 01, 'Recovery'. Levels are undone in its last quarter, the scratch.
 #![tactic(auto)]
 
-ghost use Rattle.std.specs.Prelude.{◌≡◌, false, cond, ℕ, ◌+◌, ◌*◌, ◌/◌, ◌^◌, ◌≤◌, ◌<◌, length, take};
-ghost use Rattle.lists.specs.Lists.{part, put_at};
-ghost use Rattle.lifting.specs.Lift.{at};
+ghost use Rattle.std.specs.Prelude.{◌≡◌, false, cond, ℕ, ◌+◌, ◌*◌, ◌/◌, ◌^◌, ◌≤◌, ◌<◌, length};
 ghost use Rattle.format.specs.Lifting.{Shape};
 ghost use Rattle.format.specs.Refusals.{each};
-ghost use Rattle.format.specs.Writing.{too_large, numbers_refusal};
+ghost use Rattle.refusals.specs.Number.{code_of};
+ghost use Rattle.format.specs.Writing.{numbers_refusal};
 ghost use Rattle.undoing.specs.Down.{detail_at, Within, RowsApart, lead_of};
-ghost use Rattle.format.specs.Sizes.{green, l1, l2, l3, plane_rows};
+ghost use Rattle.format.specs.Sizes.{green, l1, plane_rows};
 ghost use Rattle.format.specs.Recovery.{read_plane, l_of};
 ghost use Rattle.format.specs.Tile.{slice};
-ghost use Rattle.format.specs.Table.{height};
-ghost use Rattle.passes.specs.Plan.{unit_of, Sized, Fits};
-ghost use Rattle.recovery.specs.Recovered.{Ready, Block, scratch_at, ll_place, ll_step, IndexRows, LevelBack, StepsBack, IndexBack, Back, ColourBack, DetailsBack, Room, Recovered};
+ghost use Rattle.passes.specs.Plan.{unit_of, Fits};
+ghost use Rattle.levels.specs.Bands.{level_of};
+ghost use Rattle.recovery.specs.Recovered.{Ready, row_refused, Block, scratch_at, ll_place, step_in, to_in, undoing_of, From, IndexRows, LevelBack, StepsBack, IndexBack, Back, ColourBack, DetailsBack, Room, Recovered};
 
 use fields::rows_of;
-use levels::{steps_2, steps_3};
+use levels::Stage;
 use passes::{GROUP_2, GROUP_3, Plan};
-use returning::{Undone, bands_back_1, bands_back_2, bands_back_3, base_back, size_fault};
-use rows::clear;
-use undoing::{averages, detail_at, details, undo_level};
-use words::first_of;
+use refusals::Refusal;
+use returning::{Undone, bands_back, base_back, check_row};
+use undoing::{Level, Spaced, averages, detail_at, details};
 
 // The units of a block, the packets of groups 0 to 3 of an index, or of group 4's; and where the scratch starts behind three of them.
 const INDEX: usize = 64;
 
 const SCRATCH: usize = 192;
 
-// A level undone into the rows from `to` on, and the numbers from a to b cleared for its bands. Where its rows stand.
-fn undo_into(
-    work: &mut [i32],
-    from: usize,
-    s: usize,
-    to: usize,
-    t: usize,
+// A level to be undone: h low rows and m high ones, of c columns, into rows from `to` on, each t behind the one before it; and the numbers from a
+// to b, which are cleared for its bands.
+#[derive(Clone, Copy)]
+struct Undoing {
     c: usize,
     h: usize,
     m: usize,
     leads: bool,
+    t: usize,
+    to: usize,
     a: usize,
     b: usize,
-) -> Undone
-    requires within { Within from s (2 * c) (h + m) (length work.old) × Within to t (2 * c) (h + m) (length work.old) × RowsApart from s to t (2 * c) (h + m) }
-    requires shape { (1 ≤ c) × (2 * c ≤ t) × (1 ≤ h) × Shape (lead_of leads) h m }
-    requires order { (a ≤ b) × (b ≤ to) × (b ≤ length work.old) × (to + t < 2 ^ 63) }
-    ensures { Ready (lead_of leads) h m c from s to t a b work.old work.new result }
-{
-    undo_level(work, from, s, to, t, c, h, m, leads);
-    clear(&mut work[a..b]);
-    let stride = 2 * t;
-    if leads {
-        let low = to + t;
+}
+
+impl Undoing {
+    // That of a level of the block from `at` on: level 3 into the scratch from its start on, the others behind the rows that they come from.
+    fn of_level(s: Stage, z: Plan, at: usize, from: usize) -> Undoing
+        requires { Fits z at × (z.slots ≡ z.n + 1) × (to_in z (level_of s) from < 2 ^ 63) }
+        ensures { result ≡ undoing_of z at (level_of s) from }
+    {
+        let u = z.unit();
+        let g = s.level(z, at);
+        let (leads, t, to, a, b) = match s {
+            Stage::First => (z.guarded, 2 * z.w, from + 2 * g.c, at + u, at + GROUP_2 * u),
+            Stage::Second => (
+                z.guarded,
+                z.w,
+                from + 2 * g.c,
+                at + GROUP_2 * u,
+                at + GROUP_3 * u,
+            ),
+            Stage::Third => (
+                false,
+                z.w / 2,
+                SCRATCH * u,
+                at + GROUP_3 * u,
+                at + INDEX * u,
+            ),
+        };
+        Undoing {
+            c: g.c,
+            h: g.h,
+            m: s.steps(z),
+            leads,
+            t,
+            to,
+            a,
+            b,
+        }
+    }
+
+    // From rows from `from` on, which are t apart too. Where its bands stand.
+    fn undo(self, work: &mut [i32], from: usize) -> Undone
+        requires within { Within from self.t (2 * self.c) (self.h + self.m) (length work.old) × Within self.to self.t (2 * self.c) (self.h + self.m) (length work.old) × RowsApart from self.t self.to self.t (2 * self.c) (self.h + self.m) }
+        requires shape { (1 ≤ self.c) × (2 * self.c ≤ self.t) × (1 ≤ self.h) × Shape (lead_of self.leads) self.h self.m }
+        requires order { (self.a ≤ self.b) × (self.b ≤ self.to) × (self.b ≤ length work.old) × (self.to + self.t < 2 ^ 63) }
+        ensures { Ready (lead_of self.leads) self.h self.m self.c from self.t self.to self.t self.a self.b work.old work.new result }
+    {
+        let (t, to) = (self.t, self.to);
+        let level = Level {
+            from: Spaced {
+                start: from,
+                step: t,
+            },
+            to: Spaced { start: to, step: t },
+            c: self.c,
+            h: self.h,
+            m: self.m,
+            leads: self.leads,
+        };
+        level.undo(work);
+        work[self.a..self.b].fill(0);
+        let (low, high) = if self.leads {
+            (to + t, to)
+        } else {
+            (to, to + t)
+        };
         Undone {
             low,
-            high: to,
-            stride,
-        }
-    } else {
-        let high = to + t;
-        Undone {
-            low: to,
             high,
-            stride,
+            stride: 2 * t,
         }
     }
 }
 
-// Level 3 of the block from `at` on, from the rows of what came out of it.
-fn third_back(work: &mut [i32], z: Plan, at: usize, from: usize, odd: bool) -> u64
-    requires { Block z at (length work.old) × (from + 64 * unit_of z ≤ scratch_at z) }
-    ensures { LevelBack z at l3 odd from (z.w / 2) work.old work.new result }
+// A level of the block from `at` on, from the rows of what came out of it. Where its ll stands, and what refuses its bands.
+fn level_back(
+    work: &mut [i32],
+    s: Stage,
+    z: Plan,
+    at: usize,
+    from: usize,
+    odd: bool,
+) -> (usize, Result<(), Refusal>)
+    requires { Block z at (length work.old) × From z (level_of s) from }
+    ensures { (result.0 ≡ ll_place z (level_of s)) × LevelBack z at (level_of s) odd from (step_in z (level_of s)) work.old work.new (code_of result.1) }
 {
-    let u = z.unit();
-    let t = z.w / 2;
-    let h = steps_3(z);
-    let to = SCRATCH * u;
-    let a = at + GROUP_3 * u;
-    let b = at + INDEX * u;
-    let rows = undo_into(work, from, t, to, t, z.w / 4, h, h, false, a, b);
-    bands_back_3(work, z, at, rows, odd)
-}
-
-// Level 2, from ll of level 3 where it stands.
-fn second_back(work: &mut [i32], z: Plan, at: usize) -> u64
-    requires { Block z at (length work.old) }
-    ensures { LevelBack z at l2 false (ll_place z l3) (ll_step z l3) work.old work.new result }
-{
-    let u = z.unit();
-    let c = z.w / 8;
-    let h = steps_2(z);
-    let from = SCRATCH * u;
-    let to = from + 2 * c;
-    let a = at + GROUP_2 * u;
-    let b = at + GROUP_3 * u;
-    let rows = undo_into(work, from, z.w, to, z.w, c, h, h, z.guarded, a, b);
-    bands_back_2(work, z, at, rows)
-}
-
-// A row of t numbers later where the high band leads.
-fn later(z: Plan, t: usize) -> usize
-    ensures { result ≡ cond z.guarded t 0 }
-{
-    if z.guarded { t } else { 0 }
-}
-
-// Where ll of level 2 stands.
-fn ll_2(z: Plan) -> usize
-    requires { Fits z 0 × (ll_place z l2 < 2 ^ 63) }
-    ensures { result ≡ ll_place z l2 }
-{
-    SCRATCH * z.unit() + 2 * (z.w / 8) + later(z, z.w)
-}
-
-// Where ll of level 1 stands.
-fn ll_1(z: Plan) -> usize
-    requires { Fits z 0 × (ll_place z l1 < 2 ^ 63) × (z.w < 2 ^ 62) }
-    ensures { result ≡ ll_place z l1 }
-{
-    ll_2(z) + 2 * (z.w / 16) + later(z, 2 * z.w)
-}
-
-// The rows of level 1's ll.
-fn rows_1(z: Plan) -> usize
-    requires { Sized z.guarded z.w z.n }
-    ensures { result ≡ height z.guarded z.n l1 }
-{
-    if z.guarded { z.n - 1 } else { z.n }
-}
-
-// Level 1, from ll of level 2 where it stands.
-fn first_back(work: &mut [i32], z: Plan, at: usize) -> u64
-    requires { Block z at (length work.old) }
-    ensures { LevelBack z at l1 false (ll_place z l2) (ll_step z l2) work.old work.new result }
-{
-    let u = z.unit();
-    let c = z.w / 16;
-    let h = rows_1(z);
-    let from = ll_2(z);
-    let to = from + 2 * c;
-    let t = 2 * z.w;
-    let a = at + u;
-    let b = at + GROUP_2 * u;
-    let rows = undo_into(work, from, t, to, t, c, h, z.n, z.guarded, a, b);
-    bands_back_1(work, z, at, rows)
+    let g = Undoing::of_level(s, z, at, from);
+    let rows = g.undo(work, from);
+    let checked = bands_back(work, s, z, at, rows, odd);
+    (rows.low, checked)
 }
 
 // Band 0, from ll of level 1 where it stands.
-fn steps_back(work: &mut [i32], z: Plan, at: usize) -> u64
-    requires { Block z at (length work.old) }
-    ensures { StepsBack z at work.old work.new result }
+fn steps_back(work: &mut [i32], z: Plan, at: usize, from: usize) -> Result<(), Refusal>
+    requires { Block z at (length work.old) × (from ≡ ll_place z l1) }
+    ensures { StepsBack z at work.old work.new (code_of result) }
 {
-    let from = ll_1(z);
     let b = at + z.unit();
-    clear(&mut work[at..b]);
+    work[at..b].fill(0);
     base_back(work, z, at, from, 4 * z.w)
 }
 
 // All levels of the block from `at` on, from the rows of what came out of them.
-fn index_back(work: &mut [i32], z: Plan, at: usize, from: usize, odd: bool) -> u64
+fn index_back(work: &mut [i32], z: Plan, at: usize, from: usize, odd: bool) -> Result<(), Refusal>
     requires { Block z at (length work.old) × (from + 64 * unit_of z ≤ scratch_at z) }
-    ensures { IndexBack z at odd from work.old work.new result }
+    ensures { IndexBack z at odd from work.old work.new (code_of result) }
 {
-    let a = third_back(work, z, at, from, odd);
-    let b = second_back(work, z, at);
-    let c = first_back(work, z, at);
-    let d = steps_back(work, z, at);
-    first_of(a, first_of(b, first_of(c, d)))
+    let (ll_3, a) = level_back(work, Stage::Third, z, at, from, odd);
+    let (ll_2, b) = level_back(work, Stage::Second, z, at, ll_3, false);
+    let (ll_1, c) = level_back(work, Stage::First, z, at, ll_2, false);
+    let d = steps_back(work, z, at, ll_1);
+    a.and(b).and(c).and(d)
 }
 
-// The first n numbers of a plane, to `to`.
-fn copy(work: &mut [i32], to: usize, plane: &[i32], n: usize)
-    requires { (n ≤ length plane.now) × (to + n ≤ length work.old) }
-    ensures { work.new ≡ put_at work.old to (take n plane.now) }
-{
-    let mut k = 0;
-    while k < n {
-        work[to + k] = plane[k];
-        k += 1;
-    }
-}
-
-// The first refusal of the numbers of a row.
-fn large_row(row: &[i32]) -> u64
-    ensures { result ≡ each (λ x. too_large (at row.now x)) (length row.now) }
-{
-    let mut x = 0;
-    while x < row.len() {
-        let f = size_fault(row[x]);
-        if f != 0 {
-            return f;
-        }
-        x += 1;
-    }
-    0
-}
-
-// The first refusal of rows of c numbers, `count` of them, from `from` on, with a gap of rows behind the first e.
-fn large_rows(work: &[i32], from: usize, e: usize, gap: usize, c: usize, count: usize) -> u64
+// Refuses rows of c numbers, `count` of them, from `from` on, with a gap of rows behind the first e, in which a number is too large.
+fn check_rows(
+    work: &[i32],
+    from: usize,
+    e: usize,
+    gap: usize,
+    c: usize,
+    count: usize,
+) -> Result<(), Refusal>
     requires { (1 ≤ c) × ((y : ℕ) → y < count → from + detail_at e gap y * c + c ≤ length work.now) }
-    ensures { result ≡ each (λ y. each (λ x. too_large (at (part work.now (from + detail_at e gap y * c) c) x)) c) count }
+    ensures { code_of result ≡ each (row_refused work.now from e gap c) count }
 {
-    let mut y = 0;
-    while y < count {
+    for y in 0..count {
         let a = from + detail_at(e, gap, y) * c;
-        let b = a + c;
-        let f = large_row(&work[a..b]);
-        if f != 0 {
-            return f;
-        }
-        y += 1;
+        check_row(&work[a..a + c])?;
     }
-    0
+    Ok(())
 }
 
 // Green's averages, one row behind the other in red's block, through details in the scratch.
@@ -228,9 +184,9 @@ fn average_rows(work: &mut [i32], z: Plan, plane: &[i32])
 }
 
 // Green's coefficients of groups 0 to 3.
-fn green_back(work: &mut [i32], z: Plan, plane: &[i32]) -> u64
+fn green_back(work: &mut [i32], z: Plan, plane: &[i32]) -> Result<(), Refusal>
     requires { Block z 0 (length work.old) × (plane_rows z.guarded z.n * z.w ≤ length plane.now) }
-    ensures back { Back z 0 green (l_of (plane_rows z.guarded z.n) (z.w / 2) (read_plane z.w plane.now)) work.new result }
+    ensures back { Back z 0 green (l_of (plane_rows z.guarded z.n) (z.w / 2) (read_plane z.w plane.now)) work.new (code_of result) }
     ensures same_length { length work.new ≡ length work.old }
 {
     let u = z.unit();
@@ -239,49 +195,48 @@ fn green_back(work: &mut [i32], z: Plan, plane: &[i32]) -> u64
 }
 
 // Red's coefficients, or blue's, in the block from `at` on.
-fn colour_back(work: &mut [i32], z: Plan, at: usize, plane: &[i32]) -> u64
+fn colour_back(work: &mut [i32], z: Plan, at: usize, plane: &[i32]) -> Result<(), Refusal>
     requires { Block z at (length work.old) × (plane_rows z.guarded z.n * (z.w / 2) ≤ length plane.now) }
-    ensures { ColourBack z at plane.now work.old work.new result }
+    ensures { ColourBack z at plane.now work.old work.new (code_of result) }
 {
     let n = rows_of(z.n, z.guarded) * (z.w / 2);
-    copy(work, at, plane, n);
+    work[at..at + n].copy_from_slice(&plane[..n]);
     index_back(work, z, at, at, true)
 }
 
-// The first rows of group 4's packet that the final green uses, and those that it skips behind them.
-fn kept(guarded: bool) -> usize
-    ensures { result ≡ cond guarded 2 4 }
+// How many rows of group 4's packet the final green uses first, and how many behind them it skips.
+fn kept(guarded: bool) -> (usize, usize)
+    ensures { (result.0 ≡ cond guarded 2 4) × (result.1 ≡ cond guarded 6 4) }
 {
-    if guarded { 2 } else { 4 }
-}
-
-fn skipped(guarded: bool) -> usize
-    ensures { result ≡ cond guarded 6 4 }
-{
-    if guarded { 6 } else { 4 }
+    if guarded { (2, 6) } else { (4, 4) }
 }
 
 // Green's details in group 4's packet.
-fn details_back(work: &mut [i32], z: Plan, plane: &[i32]) -> u64
+fn details_back(work: &mut [i32], z: Plan, plane: &[i32]) -> Result<(), Refusal>
     requires { Block z 0 (length work.old) × Fits z (scratch_at z) × (plane_rows z.guarded z.n * z.w ≤ length plane.now) }
-    ensures { DetailsBack z plane.now work.old work.new result }
+    ensures { DetailsBack z plane.now work.old work.new (code_of result) }
 {
     let u = z.unit();
     let at = SCRATCH * u;
     let end = at + INDEX * u;
     let c = z.w / 2;
     let rows = rows_of(z.n, z.guarded);
-    let e = kept(z.guarded);
-    let gap = skipped(z.guarded);
-    clear(&mut work[at..end]);
+    let (e, gap) = kept(z.guarded);
+    work[at..end].fill(0);
     details(work, plane, at, e, gap, c, rows);
-    large_rows(work, at, e, gap, c, rows)
+    check_rows(work, at, e, gap, c, rows)
 }
 
-// The coefficients of three planes: green's block, red's, blue's, then group 4. Refusal 25, or 0.
-pub fn recover(work: &mut [i32], z: Plan, full: &[i32], red: &[i32], blue: &[i32]) -> u64
+// The coefficients of three planes: green's block, red's, blue's, then group 4. Refuses a number out of range.
+pub fn recover(
+    work: &mut [i32],
+    z: Plan,
+    full: &[i32],
+    red: &[i32],
+    blue: &[i32],
+) -> Result<(), Refusal>
     requires { Room z (length work.old) (length full.now) (length red.now) (length blue.now) }
-    ensures value { result ≡ numbers_refusal z.guarded z.n z.w (slice full.now red.now blue.now) }
+    ensures value { code_of result ≡ numbers_refusal z.guarded z.n z.w (slice full.now red.now blue.now) }
     ensures recovered { Recovered z (slice full.now red.now blue.now) work.new }
     ensures same_length { length work.new ≡ length work.old }
 {
@@ -290,5 +245,5 @@ pub fn recover(work: &mut [i32], z: Plan, full: &[i32], red: &[i32], blue: &[i32
     let b = colour_back(work, z, INDEX * u, red);
     let c = colour_back(work, z, 2 * INDEX * u, blue);
     let d = details_back(work, z, full);
-    first_of(a, first_of(b, first_of(c, d)))
+    a.and(b).and(c).and(d)
 }

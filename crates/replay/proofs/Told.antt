@@ -1,29 +1,30 @@
--- What the loops that compare numbers know. Assumes nothing.
-use mathlib.Core.Path.{◌≡◌, refl, ap, ◌∙◌}
-use mathlib.Core.Bool.{true, false, false≢true}
-use mathlib.Core.List.{List}
-use mathlib.Core.Logic.{⊎_elim}
-use Prim.Native.Nat.{ℕ, ◌+◌, ◌<◌, ◌≤◌}
-use native.Mathlib.Nat.{eq-or-lt_of_le}
-use native.Mathlib.Omega.{arith}
-use lib.IntN.{ℤ, pos}
-use lib.ListN.{length, get_or}
+-- What comparing numbers tells. Assumes nothing.
+use Rattle.std.proofs.Common.{◌≡◌, ℕ, ◌<◌, List, Bool, true, false, length, get_or, refl, ap, ◌∙◌, ℤ, pos, MatchBool, arith, zero-add}
+use mathlib.Core.Bool.{false≢true}
+use mathlib.Core.Logic.{◌≢◌}
 use Rattle.lists.proofs.Tab.{tab-of, tab-same, get_or-tab}
-use Rattle.replay.specs.Numbers.{Tells}
-
--- the numbers before i are f's
-abbrev pub Until : List ℤ → (ℕ → ℤ) → ℕ → Type 0
-Until l f i = (k : ℕ) → k < i → get_or l k (pos 0) ≡ f k
+use Rattle.std.specs.List.{range_with_len, AllWithin, HoldsAt}
+use Rattle.std.proofs.lemmas.List.FromFn.{length-range_with_len, get_or-range_with_len}
+use Rattle.replay.specs.Numbers.{Tells, always}
 
 module _ (l : List ℤ) (f : ℕ → ℤ) where
-  pub until-start : Until l f 0
-  until-start k h = absurd (omega arith)
+  -- each number was compared, or one that differs was found
+  told_by : (r : Bool) → MatchBool r ((k : ℕ) → k < length l → get_or l k (pos 0) ≡ f k) ((k : ℕ) × (k < length l) × (get_or l k (pos 0) ≢ f k)) → Tells r l f
+  told_by true same = (λ e. tab-of (pos 0) l ∙ tab-same (length l) (λ k. get_or l k (pos 0)) f same, λ e. refl)
+  told_by false (k, h, differs) = (λ e. absurd (false≢true e), λ e. absurd (differs (ap (λ (t : List ℤ). get_or t k (pos 0)) e ∙ get_or-tab (length l) f k (pos 0) h)))
 
-  pub until-next : (i : ℕ) → Until l f i → get_or l i (pos 0) ≡ f i → Until l f (i + 1)
-  until-next i u e k h = ⊎_elim (λ (s : k ≡ i). rw s e) (λ (b : k < i). u k b) (eq-or-lt_of_le {n = k} {m = i} (omega arith))
+-- the same of the library's `all`: over the numbers, and over their places
+pub told_each : (l : List ℤ) (v : ℤ) (r : Bool) → MatchBool r (AllWithin (λ x. x ≡ v) l 0 (length l)) ((k : ℕ) × (k < length l) × HoldsAt (λ x. x ≢ v) l k) → Tells r l (always v)
+told_each l v true same = told_by l (always v) true (λ k h. same k (pos 0) (omega arith) h)
+told_each l v false (k, h, differs) = told_by l (always v) false (k, h, differs (pos 0))
 
-  pub until-all : (i : ℕ) → Until l f i → length l ≤ i → Tells true l f
-  until-all i u h = (λ e. tab-of (pos 0) l ∙ tab-same (length l) (λ k. get_or l k (pos 0)) f (λ k b. u k (omega arith)), λ e. refl)
-
-  pub until-not : (i : ℕ) → i < length l → (get_or l i (pos 0) ≡ f i → ⊥) → Tells false l f
-  until-not i h n = (λ e. absurd (false≢true e), λ e. absurd (n (ap (λ (t : List ℤ). get_or t i (pos 0)) e ∙ get_or-tab (length l) f i (pos 0) h)))
+module _ (l : List ℤ) (f : ℕ → ℤ) where
+  pub told_places : (r : Bool) → MatchBool r
+      (AllWithin (λ i. get_or l i (pos 0) ≡ f i) (range_with_len 0 (length l)) 0 (length (range_with_len 0 (length l))))
+      ((k : ℕ) × (k < length (range_with_len 0 (length l))) × HoldsAt (λ i. get_or l i (pos 0) ≢ f i) (range_with_len 0 (length l)) k)
+      → Tells r l f
+  told_places true same =
+      told_by l f true (λ k h. rw (get_or-range_with_len 0 (length l) k 0 h, zero-add) at (same k 0 (omega arith) (rw (length-range_with_len 0 (length l)) h)))
+  told_places false (k, h, differs) =
+      let low : k < length l = rw (length-range_with_len 0 (length l)) at h in
+      told_by l f false (k, low, (rw (get_or-range_with_len 0 (length l) k 0 low, zero-add) at (differs 0)))

@@ -1,66 +1,105 @@
 // Inspected records: `inspection::inspect_record` on one record of a stream, and its answer and what the lent band should hold. A case is
 // eleven little-endian words (the stream's length, packet, record, lent numbers of the band, refusal, bytes, allowance, bits, broken,
 // spent, how many numbers of the band are written), the stream's bytes, and a word for each number written.
-ghost use Rattle.std.specs.Prelude.{◌≤◌, length};
-
-use crate::vectors::{PATTERN, right_numbers, word};
+use crate::kind::{Case, Words};
+use crate::vectors::{PATTERN, right_numbers};
 use inspection::{Inspected, inspect_record};
+use refusals::Refusal;
 
-// Whether the bits are those of the case, and the record is broken or spent as there.
-fn right_counts(head: &[u8], answer: Inspected) -> bool
-    requires { 44 ≤ length head.now }
-{
-    if answer.bits != word(head, 28) as u64 {
-        return false;
-    }
-    if answer.broken != word(head, 32) as u64 {
-        return false;
-    }
-    answer.spent == word(head, 36) as u64
+// An answer in numbers; those that it does not have are 0.
+#[derive(Clone, Copy, Default, PartialEq)]
+struct Answer {
+    refusal: u64,
+    bytes: u64,
+    allowance: u64,
+    bits: u64,
+    broken: u64,
+    spent: u64,
 }
 
-// Whether the answer is the one of the case.
-fn right_answer(head: &[u8], answer: Inspected) -> bool
-    requires { 44 ≤ length head.now }
-{
-    if answer.refusal != word(head, 16) as u64 {
-        return false;
-    }
-    if answer.bytes != word(head, 20) as u64 {
-        return false;
-    }
-    if answer.allowance != word(head, 24) as u64 {
-        return false;
-    }
-    right_counts(head, answer)
+// The words of a case that say more than the length of its input.
+#[derive(Clone, Copy)]
+pub struct Record {
+    packet: u32,
+    record: u32,
+    lent: u32,
+    answer: Answer,
+    written: u32,
 }
 
-// Whether a call that is lent as much of the band as the case says has the answer of the case.
-fn right_call(head: &[u8], stream: &[u8], band: &mut [i32]) -> bool
-    requires { 44 ≤ length head.now }
-{
-    let n = word(head, 12);
-    if band.len() < n {
-        return false;
+impl Answer {
+    fn of(answer: Result<Option<Inspected>, Refusal>) -> Self {
+        match answer {
+            Ok(Some(known)) => Self {
+                refusal: 0,
+                bytes: known.bytes,
+                allowance: known.allowance,
+                bits: known.counts.bits,
+                broken: known.counts.broken,
+                spent: known.counts.spent,
+            },
+            Ok(None) => Self::default(),
+            Err(refusal) => Self {
+                refusal: refusal.number(),
+                ..Self::default()
+            },
+        }
     }
-    let answer = inspect_record(stream, word(head, 4), word(head, 8), &mut band[0..n]);
-    right_answer(head, answer)
 }
 
-// Inspects a record, and compares.
-pub fn right_case(head: &[u8], stream: &[u8], want: &[u8]) -> bool
-    requires { 44 ≤ length head.now }
-{
-    let mut band = [PATTERN; 1024];
-    if !right_call(head, stream, &mut band) {
-        return false;
+impl Case for Record {
+    fn words() -> usize {
+        11
     }
-    right_numbers(&band, want)
-}
 
-// The bytes of the numbers written.
-pub fn answer_length(head: &[u8]) -> usize
-    requires { 44 ≤ length head.now }
-{
-    4 * word(head, 40)
+    fn new(words: &Words) -> Self {
+        let [
+            _,
+            packet,
+            record,
+            lent,
+            refusal,
+            bytes,
+            allowance,
+            bits,
+            broken,
+            spent,
+            written,
+        ] = *words;
+        let answer = Answer {
+            refusal: refusal as u64,
+            bytes: bytes as u64,
+            allowance: allowance as u64,
+            bits: bits as u64,
+            broken: broken as u64,
+            spent: spent as u64,
+        };
+        Self {
+            packet,
+            record,
+            lent,
+            answer,
+            written,
+        }
+    }
+
+    // A word for each number written.
+    fn answer_length(&self) -> usize {
+        4 * self.written as usize
+    }
+
+    fn is_right(&self, stream: &[u8], want: &[u8]) -> bool {
+        let mut band = [PATTERN; 1024];
+        let n = self.lent as usize;
+        if band.len() < n {
+            return false;
+        }
+        let answer = inspect_record(
+            stream,
+            self.packet as usize,
+            self.record as usize,
+            &mut band[..n],
+        );
+        Answer::of(answer) == self.answer && right_numbers(&band, want)
+    }
 }

@@ -1,19 +1,29 @@
 // Listings: `listing::respond` on an input of the program `tiles`, and what that program should print. A case is two little-endian words
 // (the lengths of the input and of the text), the input's bytes, and the text's.
-ghost use Rattle.std.specs.Prelude.{◌≤◌, length};
+use crate::kind::{Case, Words};
 
-use crate::vectors::word;
-
-// Whether the input is answered by that text.
-pub fn right_case(input: &[u8], want: &[u8]) -> bool {
-    let mut out = [0u8; 4096];
-    let n = listing::respond(input, &mut out);
-    check::same(&out[..n], want)
+// The words of a case that say more than the length of its input.
+#[derive(Clone, Copy)]
+pub struct Listing {
+    text: u32,
 }
 
-// The bytes of the text.
-pub fn answer_length(head: &[u8]) -> usize
-    requires { 24 ≤ length head.now }
-{
-    word(head, 4)
+impl Case for Listing {
+    fn words() -> usize {
+        2
+    }
+
+    fn new(words: &Words) -> Self {
+        Self { text: words[1] }
+    }
+
+    fn answer_length(&self) -> usize {
+        self.text as usize
+    }
+
+    fn is_right(&self, input: &[u8], want: &[u8]) -> bool {
+        let mut out = [0u8; 4096];
+        let n = listing::respond(input, &mut out);
+        &out[..n] == want
+    }
 }

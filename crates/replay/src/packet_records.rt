@@ -1,60 +1,69 @@
 // Records: `coefficients::arw6_packet` on a packet, and the coefficients and the counts that it should give. A case is eight
 // little-endian words (the packet's length, kind, m, columns, records, broken records, spent records, bits), the packet's bytes, and a word
 // for each coefficient.
-ghost use Rattle.std.specs.Prelude.{◌<◌, ◌≤◌, ◌^◌, length};
-
-use crate::vectors::{same, small, word};
+use crate::kind::{Case, Words};
+use crate::vectors::{same, small};
 use coefficients::{PacketCounts, arw6_packet};
 
-// The bytes of the coefficients.
-pub fn answer_length(head: &[u8]) -> usize
-    requires { 32 ≤ length head.now }
-    ensures { result < 2 ^ 34 }
-{
-    4 * (small(head, 16) * (small(head, 4) * small(head, 8) * small(head, 12)))
+// The words of a case that say more than the length of its input.
+#[derive(Clone, Copy)]
+pub struct Packet {
+    kind: u8,
+    m: u8,
+    columns: u8,
+    records: u8,
+    broken: u32,
+    spent: u32,
+    bits: u32,
 }
 
-// Whether the answer is the one of the case.
-fn right_counts(head: &[u8], counted: PacketCounts) -> bool
-    requires { 32 ≤ length head.now }
-{
-    if counted.together != 1 {
-        return false;
+impl Packet {
+    // Whether the answer is the one of the case.
+    fn is_counted(&self, counted: PacketCounts) -> bool {
+        counted.together == 1
+            && counted.broken == self.broken as u64
+            && counted.spent == self.spent as u64
+            && counted.bits == self.bits as u64
     }
-    if counted.broken != word(head, 20) as u64 {
-        return false;
-    }
-    if counted.spent != word(head, 24) as u64 {
-        return false;
-    }
-    counted.bits == word(head, 28) as u64
 }
 
-// Whether the packet gives the coefficients and the counts that it should.
-fn right_band(head: &[u8], packet: &[u8], want: &[u8], band: &mut [i32]) -> bool
-    requires { 32 ≤ length head.now }
-{
-    let n = want.len() / 4;
-    if band.len() < n {
-        return false;
+impl Case for Packet {
+    fn words() -> usize {
+        8
     }
-    let counted = arw6_packet(
-        packet,
-        small(head, 8),
-        small(head, 12),
-        small(head, 16),
-        &mut band[0..n],
-    );
-    if !right_counts(head, counted) {
-        return false;
-    }
-    same(&band[0..n], want)
-}
 
-// The same, with room for the coefficients.
-pub fn right_case(head: &[u8], packet: &[u8], want: &[u8]) -> bool
-    requires { 32 ≤ length head.now }
-{
-    let mut band = [1i32; 1024];
-    right_band(head, packet, want, &mut band)
+    fn new(words: &Words) -> Self {
+        let [_, kind, m, columns, records, broken, spent, bits, ..] = *words;
+        Self {
+            kind: small(kind),
+            m: small(m),
+            columns: small(columns),
+            records: small(records),
+            broken,
+            spent,
+            bits,
+        }
+    }
+
+    // A word for each coefficient.
+    fn answer_length(&self) -> usize {
+        let in_record = self.kind as usize * self.m as usize * self.columns as usize;
+        4 * (self.records as usize * in_record)
+    }
+
+    fn is_right(&self, packet: &[u8], want: &[u8]) -> bool {
+        let mut band = [1i32; 1024];
+        let n = want.len() / 4;
+        if band.len() < n {
+            return false;
+        }
+        let counted = arw6_packet(
+            packet,
+            self.m as usize,
+            self.columns as usize,
+            self.records as usize,
+            &mut band[..n],
+        );
+        self.is_counted(counted) && same(&band[..n], want)
+    }
 }

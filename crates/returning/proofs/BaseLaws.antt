@@ -8,12 +8,13 @@ use native.Mathlib.Omega.{arith}
 use lib.IntN.{ℤ}
 use lib.ListN.{length}
 use mir.Syntax.{w16}
+use mir.Val.{bool_byte}
 use Rattle.wrap32.specs.Cut.{cut, sub_w}
 use Rattle.lists.specs.Lists.{part}
 use Rattle.lists.proofs.Tab.{length-tab, tab-same}
 use Rattle.lists.proofs.Laid.{length-laid, laid_out, laid_same}
 use Rattle.format.specs.Lifting.{Plane}
-use Rattle.format.specs.Sizes.{l1, base, Tall}
+use Rattle.format.specs.Sizes.{l1, base}
 use Rattle.format.specs.Table.{start, height, Source, S}
 use Rattle.format.specs.Recovery.{before, differences}
 use Rattle.format.specs.Writing.{too_far}
@@ -30,9 +31,10 @@ pub base-height : (g : Bool) (n : ℕ) → n - start g ≡ height g n l1
 base-height false n = omega arith
 base-height true n = refl
 
-pub start-most : (g : Bool) (n : ℕ) → Tall g n → start g ≤ n
-start-most false n t = omega arith
-start-most true n t = omega arith
+-- the first row that goes in, as the code has it
+pub start-is : (g : Bool) → bool_byte g ≡ start g
+start-is false = refl
+start-is true = refl
 
 pub start_small : (g : Bool) → start g ≤ 1
 start_small false = omega arith

@@ -1,12 +1,7 @@
 -- Which rows of a band are edge rows, by document 01's table. Assumes nothing.
-use mathlib.Core.Path.{◌≡◌, refl}
-use mathlib.Core.Bool.{Bool, true, false, not, cond}
-use mathlib.Core.Logic.{⊎_elim}
-use Prim.Native.Nat.{ℕ, ◌+◌, ◌-◌, ◌≤◌, ◌<◌}
-use native.Mathlib.Omega.{arith}
-use lib.Dec.{ltb}
-use lib.IntN.{ℤ}
-use borrow.Author.Tests.{eq-eqb, ne_eqb, lt-ltb, le-ltb}
+use Rattle.std.proofs.Common.{◌≡◌, refl, Bool, true, false, not, cond, ⊎_elim, ℕ, ◌+◌, ◌-◌, ◌≤◌, ◌<◌, arith, ltb, ℤ, eq-eqb, ne_eqb, lt-ltb, le-ltb}
+use native.Mathlib.Nat.{sub-zero}
+use mir.Val.{bool_byte}
 use Rattle.format.specs.Sizes.{l2, l3}
 use Rattle.format.specs.Table.{Source, S, E, hh, source, is_edge}
 use Rattle.format.specs.Recovery.{back}
@@ -62,3 +57,19 @@ module _ (h y : ℕ) (low : y < h) where
       (le-or-lt h (y + 1)))
       (λ (q : y < 1). rw (lt-ltb y 1 q, eq-eqb y 0 (omega arith)))
       (le-or-lt 1 y)
+
+  -- both, by how many rows more are edge rows at each end of a plain level
+  module _ (g : Bool) (plain : ℕ) where
+    pub edge-2 : plain ≡ bool_byte (not g) → cond (ltb y 1) true (not (ltb y (h - plain))) ≡ is_edge (source g l2 h hh y)
+    edge-2 e = by g e
+      where
+        by : (b : Bool) → plain ≡ bool_byte (not b) → cond (ltb y 1) true (not (ltb y (h - plain))) ≡ is_edge (source b l2 h hh y)
+        by false p = rw p edge-plain-2
+        by true p = rw (p, sub-zero h) edge-guarded-2
+
+    pub edge-3 : plain ≡ bool_byte (not g) → cond (ltb y (1 + plain)) true (not (ltb y (h - 1 - plain))) ≡ is_edge (source g l3 h hh y)
+    edge-3 e = by g e
+      where
+        by : (b : Bool) → plain ≡ bool_byte (not b) → cond (ltb y (1 + plain)) true (not (ltb y (h - 1 - plain))) ≡ is_edge (source b l3 h hh y)
+        by false p = let k : h - 1 - 1 ≡ h - 2 = omega arith in rw (p, k) edge-plain-3
+        by true p = rw (p, sub-zero (h - 1)) edge-guarded-3

@@ -1,27 +1,56 @@
 -- Rows that go to their places one after the other, none from where one goes to. Assumes nothing.
-use mathlib.Core.Path.{◌≡◌, sym, ◌∙◌}
-use mathlib.Core.List.{List}
-use mathlib.Core.Logic.{⊎_elim, inl, inr}
-use Prim.Native.Nat.{ℕ, ◌+◌, ◌*◌, ◌≤◌, ◌<◌}
-use native.Mathlib.Omega.{arith}
-use lib.IntN.{ℤ, pos}
-use lib.ListN.{length}
-use Rattle.lists.specs.Lists.{Apart, Clear, tab, part, laid}
-use Rattle.lists.proofs.Tab.{get_d_part, part-tab, tab-same}
-use Rattle.lists.proofs.Laid.{laid_out}
-use Rattle.lifting.specs.Lift.{at}
+use Rattle.std.proofs.Common.{◌≡◌, refl, sym, ap, ◌∙◌, List, ◌++◌, ℕ, ◌+◌, ◌-◌, ◌*◌, ◌≤◌, ◌<◌, arith, ℤ, length, take, drop, append_assoc}
+use lib.Seq.{paste, length-take-le, take_at, drop_at, drop-drop}
+use Rattle.lists.specs.Lists.{part, put_at, laid}
+use Rattle.lists.proofs.Tab.{length_part}
+use Rattle.lists.proofs.Part.{part-put-in}
+use Rattle.lists.proofs.Laid.{length-laid, laid_out, laid-step}
 use Rattle.returning.specs.Return.{Movable}
 
--- a row is the table of its numbers
-pub row-whole : (l : List ℤ) (from c : ℕ) → from + c ≤ length l → tab c (at (part l from c)) ≡ part l from c
-row-whole l from c h = tab-same c _ _ (λ k b. get_d_part l from c k (pos 0) b) ∙ sym (part-tab l from c (pos 0) h)
+-- ---- a row of c numbers at a that was copied to a place, and what becomes of it there
+module _ (l m : List ℤ) (a to c : ℕ) (stands : a + c ≤ length l) (room : to + c ≤ length l) where
+  many : length (part l a c) ≡ c
+  many = length_part l a c stands
 
--- a row that is apart from where it goes can be read while it is written
-pub apart-clear : (from to c : ℕ) → Apart from c to c → Clear to c from
-apart-clear from to c = ⊎_elim (λ (q : from + c ≤ to). inl q) (λ (q : to + c ≤ from). inr (omega arith))
+  pub copied-is : m ≡ paste l to (drop a l) (a + c - a) → m ≡ put_at l to (part l a c)
+  copied-is copied =
+      let n : a + c - a ≡ c = omega arith in
+      copied ∙ ap (paste l to (drop a l)) n ∙ rw (append_assoc, many, drop-drop c to l) (ap (λ (i : ℕ). take to l ++ (part l a c ++ drop i l)) (omega arith))
 
--- a row still stands after others went
-pub moved-source : (p : ℕ → ℕ) (f : ℕ → List ℤ) (l : List ℤ) (c from t count : ℕ) → ((k : ℕ) → length (f k) ≡ c) → Movable p c from t count (length l)
-    → (m : List ℤ) (k y : ℕ) → m ≡ laid p f l k → k ≤ count → y < count → part m (from + y * t) c ≡ part l (from + y * t) c
-moved-source p f l c from t count each move m k y e b h =
-    rw e (laid_out p f l c count each move.target (from + y * t) c k b (λ i q. move.apart y i h (omega (arith, q))))
+  module _ (put : m ≡ put_at l to (part l a c)) where
+    there : to + c - to ≡ c
+    there = omega arith
+
+    pub copied-row : part m to (to + c - to) ≡ part l a c
+    copied-row = rw (there, put) (ap (λ (i : ℕ). part (put_at l to (part l a c)) to i) (sym many) ∙ part-put-in l to (part l a c) (omega (arith, many)))
+
+    pub copied-back : (ys : List ℤ) → length ys ≡ c → take to m ++ (ys ++ drop (to + c - to) (drop to m)) ≡ put_at l to ys
+    copied-back ys e =
+        let t : length (take to l) ≡ to = length-take-le to l (omega arith) in
+        let r = drop (length (part l a c)) (drop to l) in
+        rw (there, put, take_at (take to l) (part l a c ++ r) to t, drop_at (take to l) (part l a c ++ r) to t, drop_at (part l a c) r c many, many, e) refl
+
+-- ---- rows of c numbers, the first at `from` and then one every t numbers, each of which becomes g of it at its place
+module _ (p : ℕ → ℕ) (g : ℕ → List ℤ → List ℤ) (l : List ℤ) (c from t count : ℕ) (each : (k : ℕ) (r : List ℤ) → length (g k r) ≡ c) (move : Movable p c from t count (length l)) where
+  abbrev went : ℕ → List ℤ
+  went y = g y (part l (from + y * t) c)
+
+  -- row y after those before it
+  module _ (m k : List ℤ) (y to : ℕ) (e : m ≡ laid p went l y) (b : y < count) (at : to ≡ p y) (copied : k ≡ put_at m to (part m (from + y * t) c)) where
+    long : length m ≡ length l
+    long = ap length e ∙ length-laid p went l c count (λ k. each k _) move.target y (omega arith)
+
+    still : part m (from + y * t) c ≡ part l (from + y * t) c
+    still = rw e (laid_out p went l c count (λ k. each k _) move.target (from + y * t) c y (omega arith) (λ i q. move.apart y i b (omega (arith, q))))
+
+    stands : from + y * t + c ≤ length m
+    stands = omega (arith, move.stands y b, long)
+
+    room : to + c ≤ length m
+    room = omega (arith, move.target y b, long)
+
+    pub row-there : part k to (to + c - to) ≡ part l (from + y * t) c
+    row-there = copied-row m k (from + y * t) to c stands room copied ∙ still
+
+    pub row-went : (ys : List ℤ) → ys ≡ went y → take to k ++ (ys ++ drop (to + c - to) (drop to k)) ≡ laid p went l (y + 1)
+    row-went ys q = copied-back m k (from + y * t) to c stands room copied ys (ap length q ∙ each y _) ∙ laid-step p went l m ys y to e at q

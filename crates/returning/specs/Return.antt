@@ -1,7 +1,9 @@
 -- What the rows of recovered bands become at their places in the packets, and what refuses them: document 01, 'Recovery'; document 02, refusal 25.
-use Rattle.std.specs.Prelude.{◌≡◌, Bool, true, false, not, cond, List, ℕ, ◌+◌, ◌*◌, ◌/◌, ◌^◌, ◌≤◌, ◌<◌, ltb, ℤ, length}
+use Rattle.std.specs.Prelude.{◌≡◌, Bool, true, false, not, cond, Option, Some, None, List, ℕ, ◌+◌, ◌*◌, ◌/◌, ◌^◌, ◌≤◌, ◌<◌, ltb, ℤ, length}
 use Rattle.std.specs.Int.{w16}
 use Rattle.wrap32.specs.Cut.{cut, sub_w}
+use Rattle.wrap32.specs.Arithmetic.{wrapping}
+use Rattle.wrap32.specs.Edge.{eq_z, edge_detail, edge_back}
 use Rattle.lists.specs.Lists.{Apart, tab, part, laid}
 use Rattle.lifting.specs.Lift.{at}
 use Rattle.format.specs.Lifting.{Plane}
@@ -20,6 +22,11 @@ use Rattle.passes.specs.Level.{packet_row, band_at, Whole}
 use Rattle.levels.specs.Block.{group_at}
 use Rattle.returning.specs.declared.Edges.{Edges}
 use Rattle.returning.specs.declared.Undone.{Undone}
+
+-- ---- numbers
+-- the number that E takes to e, if there is one
+abbrev pub value_back : Bool → ℤ → Option ℤ
+value_back odd e = cond (eq_z (edge_detail wrapping odd (edge_back odd e)) e) (Some (edge_back odd e)) None
 
 -- ---- rows
 -- the cut steps along a row l, and what refuses them

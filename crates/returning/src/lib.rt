@@ -1,112 +1,102 @@
-// Rows of recovered bands go back to their places in the packets of the work slice: E undone, band 0 as steps. Refusal 25 is found on the way.
+// Rows of recovered bands go back to their places in the packets of the work slice: E undone, band 0 as steps. A number out of range is refused on the way.
 // Document 01, 'Recovery'.
 #![tactic(auto)]
 
-ghost use Rattle.std.specs.Prelude.{◌≡◌, false, not, ℕ, ◌+◌, ◌*◌, ◌≤◌, ◌<◌, length};
-ghost use Rattle.wrap32.specs.Arithmetic.{wrapping};
-ghost use Rattle.wrap32.specs.Edge.{eq_z, edge_detail, edge_back};
-ghost use Rattle.lists.specs.Lists.{Clear, part, put_at};
+ghost use Rattle.std.specs.Prelude.{◌≡◌, false, MatchOption, ℕ, ◌+◌, ◌*◌, ◌≤◌, ◌<◌, length};
+ghost use Rattle.lists.specs.Lists.{part, put_at};
 ghost use Rattle.lifting.specs.Lift.{at};
-ghost use Rattle.format.specs.Refusals.{◌▷◌, on, each};
-ghost use Rattle.format.specs.Sizes.{l1, l2, l3};
-ghost use Rattle.format.specs.Table.{start, E, hh, source, is_edge};
+ghost use Rattle.format.specs.Refusals.{each};
+ghost use Rattle.refusals.specs.Number.{code_of};
+ghost use Rattle.format.specs.Table.{height, E, hh, source, is_edge};
 ghost use Rattle.format.specs.Writing.{too_large, too_far};
-ghost use Rattle.returning.specs.Return.{steps_of, steps_refusal, edge_row_at, some_source, row_back, row_refusal, Movable, Returnable, band_laid, band_refused, steps_laid, steps_refused, hl_laid, level_refused, AllReturnable, Held, Beside, BandsReturned, BaseBeside, BaseReturned};
+ghost use Rattle.passes.specs.Plan.{Sized};
+ghost use Rattle.levels.specs.Bands.{level_of};
+ghost use Rattle.levels.specs.Steps.{steps};
+ghost use Rattle.returning.specs.Return.{value_back, steps_of, steps_refusal, edge_row_at, some_source, row_back, row_refusal, Movable, Returnable, band_laid, band_refused, steps_laid, steps_refused, no_edges, hl_laid, level_refused, AllReturnable, Held, Beside, BandsReturned, BaseBeside, BaseReturned};
 
-use levels::{level_1, level_2, level_3};
+use levels::Stage;
 use passes::{Band, Level, Plan};
-use words::first_of;
+use refusals::Refusal;
 use wrap32::{edge_detail, sign16, wrapping_sub};
 
-// 25 where z is above 524,287 in magnitude.
-pub fn size_fault(z: i32) -> u64
-    ensures { result ≡ too_large z }
+// Refuses z above 524,287 in magnitude.
+pub fn check_size(z: i32) -> Result<(), Refusal>
+    ensures { code_of result ≡ too_large z }
 {
-    if z < -524287 {
-        return 25;
+    if z.unsigned_abs() > 524287 {
+        Err(Refusal::NumberOutOfRange)
+    } else {
+        Ok(())
     }
-    if 524287 < z { 25 } else { 0 }
 }
 
-// A row of c numbers at `from`, copied to `to`. 25 where a number is too large.
-fn copy_row(work: &mut [i32], from: usize, to: usize, c: usize) -> u64
-    requires { (from + c ≤ length work.old) × (to + c ≤ length work.old) × Clear to c from }
-    ensures { (work.new ≡ put_at work.old to (part work.old from c)) × (result ≡ each (λ x. too_large (at (part work.old from c) x)) c) }
+// Refuses a row in which a number is too large.
+pub fn check_row(row: &[i32]) -> Result<(), Refusal>
+    ensures { code_of result ≡ each (λ x. too_large (at row.now x)) (length row.now) }
 {
-    let mut refused = 0;
-    let mut x = 0;
-    while x < c {
-        let z = work[from + x];
-        work[to + x] = z;
-        refused = first_of(refused, size_fault(z));
-        x += 1;
+    for z in row {
+        check_size(*z)?;
     }
-    refused
+    Ok(())
 }
 
-// The v that E takes to e; 0 where there is none.
-fn edge_back(e: i32, odd: bool) -> i32
-    ensures { result ≡ edge_back odd e }
+// The v that E takes to e, if there is one.
+fn edge_back(e: i32, odd: bool) -> Option<i32>
+    ensures { result ≡ value_back odd e }
 {
     let v = e / 2;
-    if v == -1073741824 {
-        return 0;
-    }
-    if edge_detail(v, odd) == e { v } else { 0 }
-}
-
-// 25 where E does not take v to z, or v is too large.
-fn edge_fault(z: i32, v: i32, odd: bool) -> u64
-    ensures { result ≡ (on (not (eq_z (edge_detail wrapping odd v) z)) 25 ▷ too_large v) }
-{
-    if edge_detail(v, odd) == z {
-        size_fault(v)
+    if v != -1073741824 && edge_detail(v, odd) == e {
+        Some(v)
     } else {
-        25
+        None
     }
 }
 
-// The same with E undone. 25 also where a number is no value of E.
-fn edge_row(work: &mut [i32], from: usize, to: usize, c: usize, odd: bool) -> u64
-    requires { (from + c ≤ length work.old) × (to + c ≤ length work.old) × Clear to c from }
-    ensures { (work.new ≡ put_at work.old to (row_back odd (E 0 0) c (part work.old from c))) × (result ≡ row_refusal odd (E 0 0) c (part work.old from c)) }
+// Refuses what is no value of E, and what is too large.
+fn check_edge(v: Option<i32>) -> Result<(), Refusal>
+    ensures { MatchOption v (code_of result ≡ 25) (λ z. code_of result ≡ too_large z) }
 {
-    let mut refused = 0;
-    let mut x = 0;
-    while x < c {
-        let z = work[from + x];
-        let v = edge_back(z, odd);
-        work[to + x] = v;
-        refused = first_of(refused, edge_fault(z, v, odd));
-        x += 1;
+    let z = v.ok_or(Refusal::NumberOutOfRange)?;
+    check_size(z)
+}
+
+// A row with E undone: 0 where a number is no value of E, which is refused, and so is what is too large.
+fn undo_edges(row: &mut [i32], odd: bool) -> Result<(), Refusal>
+    ensures { (row.new ≡ row_back odd (E 0 0) (length row.old) row.old) × (code_of result ≡ row_refusal odd (E 0 0) (length row.old) row.old) }
+{
+    let mut checked = Ok(());
+    for z in row.iter_mut() {
+        let v = edge_back(*z, odd);
+        checked = checked.and(check_edge(v));
+        *z = v.unwrap_or(0);
     }
-    refused
+    checked
 }
 
-// 25 where d leaves signed 16 bits.
-fn step_fault(d: i32) -> u64
-    ensures { result ≡ too_far d }
+// Refuses d outside signed 16 bits.
+fn check_step(d: i32) -> Result<(), Refusal>
+    ensures { code_of result ≡ too_far d }
 {
-    if sign16(d) == d { 0 } else { 25 }
+    if sign16(d) == d {
+        Ok(())
+    } else {
+        Err(Refusal::NumberOutOfRange)
+    }
 }
 
-// The steps along a row of c numbers at `from`, to `to`: each number less the one before, from 0. 25 where one leaves signed 16 bits.
-fn steps_row(work: &mut [i32], from: usize, to: usize, c: usize) -> u64
-    requires { (from + c ≤ length work.old) × (to + c ≤ length work.old) × Clear to c from }
-    ensures { (work.new ≡ put_at work.old to (steps_of c (part work.old from c))) × (result ≡ steps_refusal c (part work.old from c)) }
+// The steps along a row: each number less the one before, from 0. Refuses one outside signed 16 bits.
+fn undo_sums(row: &mut [i32]) -> Result<(), Refusal>
+    ensures { (row.new ≡ steps_of (length row.old) row.old) × (code_of result ≡ steps_refusal (length row.old) row.old) }
 {
-    let mut refused = 0;
+    let mut checked = Ok(());
     let mut last: i32 = 0;
-    let mut x = 0;
-    while x < c {
-        let z = work[from + x];
-        let d = wrapping_sub(z, last);
-        work[to + x] = sign16(d);
-        refused = first_of(refused, step_fault(d));
-        last = z;
-        x += 1;
+    for z in row.iter_mut() {
+        let d = wrapping_sub(*z, last);
+        checked = checked.and(check_step(d));
+        last = *z;
+        *z = sign16(d);
     }
-    refused
+    checked
 }
 
 // The edge rows of a band, those below `first` and from `last` on, and E's mode.
@@ -118,43 +108,76 @@ pub struct Edges {
 }
 
 impl Edges {
-    // Row y of a band, at `from`, to `to`.
-    fn row(self, work: &mut [i32], y: usize, from: usize, to: usize, c: usize) -> u64
-        requires { (from + c ≤ length work.old) × (to + c ≤ length work.old) × Clear to c from }
-        ensures { (work.new ≡ put_at work.old to (row_back self.odd (some_source (edge_row_at self y)) c (part work.old from c))) × (result ≡ row_refusal self.odd (some_source (edge_row_at self y)) c (part work.old from c)) }
+    // Those of a level's hh, which has m rows.
+    fn of_level(s: Stage, z: Plan, m: usize, odd: bool) -> Edges
+        requires { Sized z.guarded z.w z.n × (m ≡ steps z.guarded z.n (level_of s)) }
+        ensures { ((y : ℕ) → y < m → edge_row_at result y ≡ is_edge (source z.guarded (level_of s) (height z.guarded z.n (level_of s)) hh y)) × (result.odd ≡ odd) }
     {
-        if y < self.first {
-            edge_row(work, from, to, c, self.odd)
-        } else if y < self.last {
-            copy_row(work, from, to, c)
+        let plain = usize::from(!z.guarded);
+        let (first, last) = match s {
+            Stage::First => (0, m),
+            Stage::Second => (1, m - plain),
+            Stage::Third => (1 + plain, m - 1 - plain),
+        };
+        Edges { first, last, odd }
+    }
+
+    // None of `count` rows.
+    fn none(self, count: usize) -> Edges
+        ensures { result ≡ no_edges count self }
+    {
+        Edges {
+            first: 0,
+            last: count,
+            odd: self.odd,
+        }
+    }
+
+    // Row y of a band as it goes back: an edge row with E undone.
+    fn undo(self, row: &mut [i32], y: usize) -> Result<(), Refusal>
+        ensures { (row.new ≡ row_back self.odd (some_source (edge_row_at self y)) (length row.old) row.old) × (code_of result ≡ row_refusal self.odd (some_source (edge_row_at self y)) (length row.old) row.old) }
+    {
+        if self.first <= y && y < self.last {
+            check_row(row)
         } else {
-            edge_row(work, from, to, c, self.odd)
+            undo_edges(row, self.odd)
         }
     }
 }
 
-// The first `count` rows of a band, of c numbers each, one every t numbers from `from` on, to their places.
-fn band_back(
-    work: &mut [i32],
-    b: Band,
+// Rows of c numbers, `count` of them, the first at `from` and then one every t numbers.
+#[derive(Clone, Copy)]
+struct Rows {
     c: usize,
     from: usize,
     t: usize,
     count: usize,
-    e: Edges,
-) -> u64
-    requires { Returnable b c from t count (length work.old) }
-    ensures { (work.new ≡ band_laid b c from t count e work.old) × (result ≡ band_refused c from t count e work.old) }
-{
-    let mut refused = 0;
-    let mut y = 0;
-    while y < count {
-        let to = b.row(c, y);
-        let r = e.row(work, y, from + y * t, to, c);
-        refused = first_of(refused, r);
-        y += 1;
+}
+
+impl Rows {
+    // Row y, copied to `to`.
+    fn copy(self, work: &mut [i32], y: usize, to: usize)
+        requires { (self.from + y * self.t + self.c ≤ length work.old) × (to + self.c ≤ length work.old) }
+        ensures { work.new ≡ put_at work.old to (part work.old (self.from + y * self.t) self.c) }
+    {
+        let a = self.from + y * self.t;
+        work.copy_within(a..a + self.c, to);
     }
-    refused
+}
+
+// The rows of a band to their places.
+fn band_back(work: &mut [i32], b: Band, r: Rows, e: Edges) -> Result<(), Refusal>
+    requires { Returnable b r.c r.from r.t r.count (length work.old) }
+    ensures { (work.new ≡ band_laid b r.c r.from r.t r.count e work.old) × (code_of result ≡ band_refused r.c r.from r.t r.count e work.old) }
+{
+    let mut checked = Ok(());
+    for y in 0..r.count {
+        let to = b.row(r.c, y);
+        r.copy(work, y, to);
+        let row = e.undo(&mut work[to..to + r.c], y);
+        checked = checked.and(row);
+    }
+    checked
 }
 
 // Where the rows of a level undone stand: those of its lows from `low` on, those of its highs from `high` on, one every `stride` numbers, each
@@ -167,135 +190,78 @@ pub struct Undone {
 }
 
 // The bands of a level with m high rows to their places: hh, whose edge rows are e's, then lh, then hl.
-fn level_back(work: &mut [i32], g: Level, m: usize, u: Undone, e: Edges) -> u64
+fn level_back(work: &mut [i32], g: Level, m: usize, u: Undone, e: Edges) -> Result<(), Refusal>
     requires { AllReturnable g m u (length work.old) }
-    ensures { (work.new ≡ hl_laid g m u e work.old) × (result ≡ level_refused g m u e work.old) }
+    ensures { (work.new ≡ hl_laid g m u e work.old) × (code_of result ≡ level_refused g m u e work.old) }
 {
     let c = g.c;
-    let t = u.stride;
-    let odd = e.odd;
-    let a = band_back(work, g.hh, c, u.high + c, t, m, e);
-    let all = Edges {
-        first: 0,
-        last: m,
-        odd,
-    };
-    let b = band_back(work, g.lh, c, u.high, t, m, all);
     let h = g.h;
-    let rest = Edges {
-        first: 0,
-        last: h,
-        odd,
+    let lh = Rows {
+        c,
+        from: u.high,
+        t: u.stride,
+        count: m,
     };
-    let d = band_back(work, g.hl, c, u.low + c, t, h, rest);
-    first_of(a, first_of(b, d))
-}
-
-// The edge rows of level 2's hh.
-fn edges_2(h: usize, guarded: bool) -> Edges
-    requires { 1 ≤ h }
-    ensures { ((y : ℕ) → y < h → edge_row_at result y ≡ is_edge (source guarded l2 h hh y)) × (result.odd ≡ false) }
-{
-    if guarded {
-        Edges {
-            first: 1,
-            last: h,
-            odd: false,
-        }
-    } else {
-        Edges {
-            first: 1,
-            last: h - 1,
-            odd: false,
-        }
-    }
-}
-
-// The edge rows of level 3's hh.
-fn edges_3(h: usize, guarded: bool, odd: bool) -> Edges
-    requires { 2 ≤ h }
-    ensures { ((y : ℕ) → y < h → edge_row_at result y ≡ is_edge (source guarded l3 h hh y)) × (result.odd ≡ odd) }
-{
-    if guarded {
-        Edges {
-            first: 1,
-            last: h - 1,
-            odd,
-        }
-    } else {
-        Edges {
-            first: 2,
-            last: h - 2,
-            odd,
-        }
-    }
-}
-
-// The bands of level 1 to group 1's packet, in the block that stands from `at` on.
-pub fn bands_back_1(work: &mut [i32], z: Plan, at: usize, u: Undone) -> u64
-    requires { Held z at (length work.old) × Beside z at l1 u (length work.old) }
-    ensures { BandsReturned z at l1 false u work.old work.new result }
-{
-    let g = level_1(z, at);
-    let m = z.n;
-    let none = Edges {
-        first: 0,
-        last: m,
-        odd: false,
+    let hh = Rows {
+        from: u.high + c,
+        ..lh
     };
-    level_back(work, g, m, u, none)
+    let hl = Rows {
+        from: u.low + c,
+        count: h,
+        ..lh
+    };
+    let a = band_back(work, g.hh, hh, e);
+    let b = band_back(work, g.lh, lh, e.none(m));
+    let d = band_back(work, g.hl, hl, e.none(h));
+    a.and(b).and(d)
 }
 
-// The bands of level 2 to group 2's packet.
-pub fn bands_back_2(work: &mut [i32], z: Plan, at: usize, u: Undone) -> u64
-    requires { Held z at (length work.old) × Beside z at l2 u (length work.old) }
-    ensures { BandsReturned z at l2 false u work.old work.new result }
+// The bands of a level to its packet, in the block that stands from `at` on.
+pub fn bands_back(
+    work: &mut [i32],
+    s: Stage,
+    z: Plan,
+    at: usize,
+    u: Undone,
+    odd: bool,
+) -> Result<(), Refusal>
+    requires { Held z at (length work.old) × Beside z at (level_of s) u (length work.old) }
+    ensures { BandsReturned z at (level_of s) odd u work.old work.new (code_of result) }
 {
-    let g = level_2(z, at);
-    let h = g.h;
-    let e = edges_2(h, z.guarded);
-    level_back(work, g, h, u, e)
+    let g = s.level(z, at);
+    let m = s.steps(z);
+    let e = Edges::of_level(s, z, m, odd);
+    level_back(work, g, m, u, e)
 }
 
-// The bands of level 3 to group 3's packet.
-pub fn bands_back_3(work: &mut [i32], z: Plan, at: usize, u: Undone, odd: bool) -> u64
-    requires { Held z at (length work.old) × Beside z at l3 u (length work.old) }
-    ensures { BandsReturned z at l3 odd u work.old work.new result }
+// The steps along rows, to rows one behind the other from `to` on.
+fn steps_back(work: &mut [i32], r: Rows, to: usize) -> Result<(), Refusal>
+    requires { Movable (λ y. to + y * r.c) r.c r.from r.t r.count (length work.old) }
+    ensures { (work.new ≡ steps_laid r.c r.from r.t to r.count work.old) × (code_of result ≡ steps_refused r.c r.from r.t r.count work.old) }
 {
-    let g = level_3(z, at);
-    let h = g.h;
-    let e = edges_3(h, z.guarded, odd);
-    level_back(work, g, h, u, e)
-}
-
-// The steps along `count` rows of c numbers, one every t numbers from `from` on, to rows one behind the other from `to` on.
-fn steps_back(work: &mut [i32], c: usize, from: usize, t: usize, to: usize, count: usize) -> u64
-    requires { Movable (λ y. to + y * c) c from t count (length work.old) }
-    ensures { (work.new ≡ steps_laid c from t to count work.old) × (result ≡ steps_refused c from t count work.old) }
-{
-    let mut refused = 0;
-    let mut y = 0;
-    while y < count {
-        let r = steps_row(work, from + y * t, to + y * c, c);
-        refused = first_of(refused, r);
-        y += 1;
+    let mut checked = Ok(());
+    for y in 0..r.count {
+        let b = to + y * r.c;
+        r.copy(work, y, b);
+        let row = undo_sums(&mut work[b..b + r.c]);
+        checked = checked.and(row);
     }
-    refused
-}
-
-// Group 0's first row that goes in.
-fn first_row(guarded: bool) -> usize
-    ensures { result ≡ start guarded }
-{
-    if guarded { 1 } else { 0 }
+    checked
 }
 
 // Level 1's ll, whose rows stand one every t numbers from `from` on, to group 0's packet in the block that stands from `at` on: as steps.
-pub fn base_back(work: &mut [i32], z: Plan, at: usize, from: usize, t: usize) -> u64
+pub fn base_back(work: &mut [i32], z: Plan, at: usize, from: usize, t: usize) -> Result<(), Refusal>
     requires { Held z at (length work.old) × BaseBeside z at from t (length work.old) }
-    ensures { BaseReturned z at from t work.old work.new result }
+    ensures { BaseReturned z at from t work.old work.new (code_of result) }
 {
     let c = z.w / 16;
-    let s = first_row(z.guarded);
-    steps_back(work, c, from, t, at + s * c, z.n - s)
+    let s = usize::from(z.guarded);
+    let r = Rows {
+        c,
+        from,
+        t,
+        count: z.n - s,
+    };
+    steps_back(work, r, at + s * c)
 }

@@ -3,12 +3,13 @@
 
 ghost use Rattle.std.specs.Prelude.{◌≡◌, ◌++◌, ◌+◌, ◌*◌, ◌≤◌, length};
 ghost use Rattle.lists.specs.Lists.{part, put_at, Clear};
-ghost use Rattle.lifting.specs.Lift.{low_row, high_row, end_row};
-ghost use Rattle.ring.specs.Ring.{LowsIn, HighsIn, low_pair, high_pair, end_pair, along_row};
+ghost use Rattle.lifting.specs.Lift.{low_row, step_row};
+ghost use Rattle.ring.specs.Ring.{LowsIn, HighsIn, low_pair, step_pair, high_pair, end_pair, along_row};
 
-use lifting::{end_row, lift_low, lift_row, odd_row};
+use lifting::{Beside, Between, Step, lift_low, lift_row, step_row};
 
-// Where a row of the low bands ll and hl stands in the work slice, and one of the high bands lh and hh.
+// Where a row of the low bands ll and hl stands in the work slice, and one of the high bands lh and hh. The slices themselves, work and ring, are lent
+// to each function as they are: a struct of the two would be made anew for each call.
 #[derive(Clone, Copy)]
 pub struct Rows {
     pub ll: usize,
@@ -30,35 +31,29 @@ fn low_half(
     requires { (to + c ≤ length ring.old) × (low + c ≤ length work.now) × (prev + c ≤ length work.now) × (cur + c ≤ length work.now) }
     ensures { ring.new ≡ put_at ring.old to (low_row c (part work.now low c) (part work.now prev c) (part work.now cur c)) }
 {
-    let end = to + c;
-    let low_end = low + c;
-    let prev_end = prev + c;
-    let cur_end = cur + c;
     lift_low(
-        &mut ring[to..end],
-        &work[low..low_end],
-        &work[prev..prev_end],
-        &work[cur..cur_end],
+        &mut ring[to..to + c],
+        &work[low..low + c],
+        &work[prev..prev + c],
+        &work[cur..cur + c],
     );
 }
 
 // A row of high results at `to`, from a high row of work and the ring's rows at a and b.
-fn high_half(work: &[i32], ring: &mut [i32], c: usize, high: usize, a: usize, b: usize, to: usize)
+fn step_half<S: Step>(
+    work: &[i32],
+    ring: &mut [i32],
+    c: usize,
+    high: usize,
+    a: usize,
+    b: usize,
+    to: usize,
+)
     requires in_bounds { (to + c ≤ length ring.old) × (a + c ≤ length ring.old) × (b + c ≤ length ring.old) × (high + c ≤ length work.now) }
     requires clear { Clear to c a × Clear to c b }
-    ensures { ring.new ≡ put_at ring.old to (high_row c (part work.now high c) (part ring.old a c) (part ring.old b c)) }
+    ensures { ring.new ≡ put_at ring.old to (step_row S.step c (part work.now high c) (part ring.old a c) (part ring.old b c)) }
 {
-    let end = high + c;
-    odd_row(ring, &work[high..end], to, a, b);
-}
-
-// The same beside the row at a alone.
-fn end_half(work: &[i32], ring: &mut [i32], c: usize, high: usize, a: usize, to: usize)
-    requires { (to + c ≤ length ring.old) × (a + c ≤ length ring.old) × (high + c ≤ length work.now) × Clear to c a }
-    ensures { ring.new ≡ put_at ring.old to (end_row c (part work.now high c) (part ring.old a c)) }
-{
-    let end = high + c;
-    end_row(ring, &work[high..end], to, a);
+    step_row::<S>(ring, &work[high..high + c], to, a, b);
 }
 
 // Low results of lo and of hi at `to`, from the low bands' row in cur and the high bands' rows in prev and cur.
@@ -70,22 +65,37 @@ pub fn low_pair(work: &[i32], ring: &mut [i32], c: usize, prev: Rows, cur: Rows,
     low_half(work, ring, c, cur.hl, prev.hh, cur.hh, to + c);
 }
 
-// High results of lo and of hi at `to`, from the high bands' row, between the ring's rows at a and b.
+// High results of lo and of hi at `to`, from the high bands' row and the ring's rows at a and b.
+fn step_pair<S: Step>(
+    work: &[i32],
+    ring: &mut [i32],
+    c: usize,
+    cur: Rows,
+    a: usize,
+    b: usize,
+    to: usize,
+)
+    requires { (to + 2 * c ≤ length ring.old) × (a + 2 * c ≤ to) × (b + 2 * c ≤ to) × HighsIn c (length work.now) cur }
+    ensures { ring.new ≡ put_at ring.old to (step_pair S.step c work.now cur ring.old a b) }
+{
+    step_half::<S>(work, ring, c, cur.lh, a, b, to);
+    step_half::<S>(work, ring, c, cur.hh, a + c, b + c, to + c);
+}
+
+// Between the rows at a and b.
 pub fn high_pair(work: &[i32], ring: &mut [i32], c: usize, cur: Rows, a: usize, b: usize, to: usize)
     requires { (to + 2 * c ≤ length ring.old) × (a + 2 * c ≤ to) × (b + 2 * c ≤ to) × HighsIn c (length work.now) cur }
     ensures { ring.new ≡ put_at ring.old to (high_pair c work.now cur ring.old a b) }
 {
-    high_half(work, ring, c, cur.lh, a, b, to);
-    high_half(work, ring, c, cur.hh, a + c, b + c, to + c);
+    step_pair::<Between>(work, ring, c, cur, a, b, to);
 }
 
-// The same beside the ring's row at a alone.
+// Beside the row at a alone.
 pub fn end_pair(work: &[i32], ring: &mut [i32], c: usize, cur: Rows, a: usize, to: usize)
     requires { (to + 2 * c ≤ length ring.old) × (a + 2 * c ≤ to) × HighsIn c (length work.now) cur }
     ensures { ring.new ≡ put_at ring.old to (end_pair c work.now cur ring.old a) }
 {
-    end_half(work, ring, c, cur.lh, a, to);
-    end_half(work, ring, c, cur.hh, a + c, to + c);
+    step_pair::<Beside>(work, ring, c, cur, a, a, to);
 }
 
 // The ring's row at `from`, along itself into out.
@@ -103,8 +113,7 @@ pub fn emit(out: &mut [i32], o: usize, ring: &[i32], from: usize, c: usize)
     requires { (o + 2 * c ≤ length out.old) × (from + 2 * c ≤ length ring.now) }
     ensures { out.new ≡ put_at out.old o (along_row c ring.now from) }
 {
-    let end = o + 2 * c;
-    across(&mut out[o..end], ring, from, c);
+    across(&mut out[o..o + 2 * c], ring, from, c);
 }
 
 // The ring's rows at a and b, one after the other.

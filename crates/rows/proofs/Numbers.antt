@@ -25,7 +25,7 @@ value-plain u sel e = simp (eq-eqb sel 0 e)
 
 pub value_none : (u sel : ℕ) → u ≡ 0 → value_of u sel ≡ pos 0
 unfolding value_of
-value_none u sel e = simp (eq-eqb u 0 e, or-true, e)
+value_none u sel e = simp (or-true, e)
 
 pub value-some : (u sel : ℕ) → (sel ≡ 0 → ⊥) → (u ≡ 0 → ⊥) → value_of u sel ≡ wrap (pos ((2 * u + 1) * 2 ^ (sel - 1) - u % 2))
 unfolding value_of

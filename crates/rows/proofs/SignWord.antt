@@ -14,7 +14,7 @@ use Rattle.format.specs.Reader.{Reader, read_of, skipped}
 use Rattle.format.proofs.BitLaws.{bits-add, bits-lt, bits-top}
 use Rattle.format.specs.Coefficients.{Four, Signed, value_of, sign_of, signs_of}
 use Rattle.rows.specs.Word.{sign_bit_of}
-use Rattle.rows.specs.declared.SignBit.{SignBit}
+use Rattle.bits.specs.declared.Used.{Used}
 
 -- bit u of four
 bit-of : (s : List ℕ) (p u : ℕ) → u < 4 → bits_at s p 4 / 2 ^ (3 - u) % 2 ≡ bits_at s (p + u) 1
@@ -24,10 +24,10 @@ bit-of s p u h =
     ∙ low (bits_at s p u) 1 (bits-lt s (p + u) 1)
 
 -- what one word's bit and one read have in common
-abbrev Same : Reader → SignBit → Signed → Type 0
+abbrev Same : Reader → Used ℤ → Signed → Type 0
 Same r b t = (b.value ≡ t.value) × (skipped r b.used ≡ t.reader)
 
-by_cases : (r : Reader) (b : Bool) (x1 x2 : SignBit) (y1 y2 : Signed) → Same r x1 y1 → Same r x2 y2 → Same r (cond b x1 x2) (cond b y1 y2)
+by_cases : (r : Reader) (b : Bool) (x1 x2 : Used ℤ) (y1 y2 : Signed) → Same r x1 y1 → Same r x2 y2 → Same r (cond b x1 x2) (cond b y1 y2)
 by_cases r true x1 x2 y1 y2 p q = p
 by_cases r false x1 x2 y1 y2 p q = q
 
@@ -45,7 +45,7 @@ module _ (s : List ℕ) (r : Reader) (word : ℕ) (is : word ≡ bits_at s r.pla
   sign-step z u h = by_cases r (lt_z (pos 0) z) _ _ _ _ (simp (one-read u h), simp (one-read u h)) (refl, refl)
 
   -- four of them
-  module _ (sel : ℕ) (q : Four) (a b c d : SignBit) (ua : a.used < 4) (ub : b.used < 4) (uc : c.used < 4)
+  module _ (sel : ℕ) (q : Four) (a b c d : Used ℤ) (ua : a.used < 4) (ub : b.used < 4) (uc : c.used < 4)
       (ea : a ≡ sign_bit_of (value_of q.a sel) word 0)
       (eb : b ≡ sign_bit_of (value_of q.b sel) word a.used)
       (ec : c ≡ sign_bit_of (value_of q.c sel) word b.used)
@@ -54,7 +54,7 @@ module _ (s : List ℕ) (r : Reader) (word : ℕ) (is : word ≡ bits_at s r.pla
     rest = simp (add-zero, sub-zero)
 
     -- one step, from the reader that the step before left
-    after : (m : ℤ) (u : ℕ) (x : SignBit) (t : Reader) → u < 4 → x ≡ sign_bit_of m word u → skipped r u ≡ t → Same r x (sign_of s m t)
+    after : (m : ℤ) (u : ℕ) (x : Used ℤ) (t : Reader) → u < 4 → x ≡ sign_bit_of m word u → skipped r u ≡ t → Same r x (sign_of s m t)
     after m u x t h e same = rw e (rw same at (sign-step m u h))
 
     pub signs-word : record { a = a.value; b = b.value; c = c.value; d = d.value; reader = skipped r d.used } ≡ signs_of s sel q r

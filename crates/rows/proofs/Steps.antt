@@ -15,10 +15,10 @@ use Rattle.format.specs.Reader.{Reader, Taken, skipped}
 use Rattle.format.specs.Coefficients.{RunAnswer, group_of, width_next, zeros_of}
 use Rattle.bits.specs.View.{as_reader, Ready}
 use Rattle.bits.specs.declared.BitReader.{BitReader}
-use Rattle.rows.specs.declared.Next.{Next}
-use Rattle.rows.specs.declared.Quad.{Quad}
+use Rattle.bits.specs.declared.Four.{Four}
+use Rattle.bits.specs.declared.Used.{Used}
+use Rattle.rows.specs.declared.Decoded.{Decoded}
 use Rattle.rows.specs.declared.Run.{Run}
-use Rattle.rows.specs.declared.Step.{Step}
 use Rattle.bits.specs.View.{change_of}
 use Rattle.rows.specs.Word.{step_of, quad_of, level_of, store_quad, Near, Ends, Runs}
 use Rattle.rows.specs.Stretch.{stretch_quad}
@@ -88,7 +88,7 @@ reader_at k place = moved_to (as_reader k.reader) place
 -- what the loop relies on
 pub record Asked (k : Call) : Type 0 where
   pub ready : Ready k.packet k.reader
-  pub go : k.reader.status ≡ 0
+  pub go : (as_reader k.reader).status ≡ 0
   pub below : k.selector < 16
   pub wide : length k.slice < 2 ^ 32
 
@@ -201,23 +201,23 @@ pub record Took (p : Point) (w used w' : ℕ) : Type 0 where
   pub least : 4 * w ≤ used
   pub few : used ≤ 52
   pub far : p.place + used < 2 ^ 40
-  pub turn : (q q' : Quad) → (q ≡ quad_of 0 p.word w used) × (q.used ≤ 4) → q' ≡ stretch_quad p.call.selector q
+  pub turn : (q : Used (Four ℤ)) (q' : Four ℤ) → (q ≡ quad_of 0 p.word w used) × (q.used ≤ 4) → q' ≡ stretch_quad p.call.selector q.value
       → (d : List ℤ) → d ≡ store_quad p.d p.i q' → (place : ℕ) → place ≡ p.place + (used + q.used) → Turn p.call d place w' (p.i + 4)
 
 -- that a point of the row is where the answer stands
-abbrev Reached : Call → List ℤ → Next → Type 0
+abbrev Reached : Call → List ℤ → Decoded ℕ → Type 0
 Reached k d m =
-    Onward k.packet k.selector k.slice k.out (state_of k.width k.reader) d m.out (state_of m.width m.reader)
-    × Done k.packet (length k.slice) k.out k.width m.out m.width m.reader
+    Onward k.packet k.selector k.slice k.out (state_of k.width k.reader) d m.value (state_of m.width m.reader)
+    × Done k.packet (length k.slice) k.out k.width m.value m.width m.reader
 
 -- to stop after a turn
 pub turn_last : {k : Call} {d : List ℤ} {place word w i : ℕ} → Asked k → Turn k d place w i → Loaded k.packet place word
-    → (m : Next) → (m.out ≡ i) × (m.width ≡ w) × (as_reader m.reader ≡ reader_at k place) × (m.reader.cache ≡ word) → Reached k d m
+    → (m : Decoded ℕ) → (m.value ≡ i) × (m.width ≡ w) × (as_reader m.reader ≡ reader_at k place) × (m.reader.cache ≡ word) → Reached k d m
 turn_last {k} {d} {place} {word} {w} {i} asked turn loaded n e =
     let r = n.reader in
     let p : r.place ≡ place = ap (λ (t : Reader). t.place) e.2 in
     let m : r.remaining ≡ stop_of k - place = ap (λ (t : Reader). t.remaining) e.2 in
-    let g : r.status ≡ k.reader.status = ap (λ (t : Reader). t.status) e.2 in (
+    let g : (as_reader r).status ≡ (as_reader k.reader).status = ap (λ (t : Reader). t.status) e.2 in (
       rw (e.0, e.1, e.2) turn.on,
       record {
         ready = record { size = asked.ready.size; room = omega (arith, asked.ready.room, turn.to); bits = rw (e.3, p) loaded.1 };
@@ -249,8 +249,8 @@ module _ {n last end stop room : ℕ} {p : Point} (t : State n last end stop roo
   state-inside near = omega (arith, near, t)
 
   -- to stop here
-  pub state-last : (m : Next) (w : ℕ) → level_of (signed_at p) ≡ w
-      → (m.out ≡ p.i) × (m.width ≡ w) × (as_reader m.reader ≡ reader_at p.call p.place) × (m.reader.cache ≡ p.word) → Reached p.call p.d m
+  pub state-last : (m : Decoded ℕ) (w : ℕ) → level_of (signed_at p) ≡ w
+      → (m.value ≡ p.i) × (m.width ≡ w) × (as_reader m.reader ≡ reader_at p.call p.place) × (m.reader.cache ≡ p.word) → Reached p.call p.d m
   state-last m w e = turn_last t.asked (turn_at e t.turn) t.loaded m
 
   -- a zero run
@@ -313,13 +313,14 @@ module _ {n last end stop room : ℕ} {p : Point} (t : State n last end stop roo
         far = omega (arith, t.asked.ready.room);
         turn = λ q q' e0 eq d ed place ep.
             let v = quad_of k.selector p.word w used in
-            let ev = eq ∙ ap (stretch_quad k.selector) e0.0 ∙ stretch-quad k.selector p.word w used t.asked.below t.loaded.0 short in
-            let eu : v.used ≡ q.used = sym (ap (λ (x : Quad). x.used) ev) ∙ ap (λ (x : Quad). x.used) eq in
+            let quad = stretch-quad k.selector p.word w used t.asked.below t.loaded.0 short in
+            let ev = eq ∙ ap (λ (x : Used (Four ℤ)). stretch_quad k.selector x.value) e0.0 ∙ quad.0 in
+            let eu : v.used ≡ q.used = sym (ap (λ (x : Used (Four ℤ)). x.used) e0.0 ∙ quad.1) in
             let pl : place ≡ p.place + (used + v.used) = omega arith in
             let rm : stop_of k - (p.place + (used + v.used)) ≡ stop_of k - p.place - (used + v.used) = omega arith in
-            let answer : record { values = v.a ∷ v.b ∷ v.c ∷ v.d ∷ []; width = w'; reader = reader_at k place }
+            let answer : record { values = v.value.a ∷ v.value.b ∷ v.value.c ∷ v.value.d ∷ []; width = w'; reader = reader_at k place }
             ≡ group_of k.packet k.selector (left_of p.d i) (record { value = w; reader = r }) = simp (pl, rm) (sym (group (omega arith) (omega arith) next')) in
-            let one = onward-group k.packet k.selector p.d i (record { value = w; reader = r }) on.clean v.a v.b v.c v.d w' in
+            let one = onward-group k.packet k.selector p.d i (record { value = w; reader = r }) on.clean v.value.a v.value.b v.value.c v.value.d w' in
             record {
               on =
                   onward-join on
@@ -334,8 +335,8 @@ module _ {n last end stop room : ℕ} {p : Point} (t : State n last end stop roo
 
   -- a group before the last
   pub state-group : Inside p → le_z (signed_at p) (pos 0) ≡ false
-      → (u : Step) → (level_of u.level ≡ (step_of p.word (width_at p)).width) × (u.used ≡ (step_of p.word (width_at p)).used)
-      → (u.used ≤ 52) × (p.place + u.used ≤ room) → Took p (width_at p) u.used (level_of u.level)
+      → (u : Used ℤ) → (level_of u.value ≡ (step_of p.word (width_at p)).value) × (u.used ≡ (step_of p.word (width_at p)).used)
+      → (u.used ≤ 52) × (p.place + u.used ≤ room) → Took p (width_at p) u.used (level_of u.value)
   state-group inside high u step fits =
       let w = width_at p in
       let some = level-some (signed_at p) high in
@@ -343,7 +344,7 @@ module _ {n last end stop room : ℕ} {p : Point} (t : State n last end stop roo
       let least : 4 * w ≤ u.used = omega (arith, step.1) in
       let enough : p.place + (u.used + 4) ≤ stop_of p.call = omega (arith, fits, t.room-is, least, some.1) in
       let next = next_more p.call.packet (reader_at p.call p.place) w p.word (left_of p.call.slice p.i) t.asked.go t.loaded.1 in
-      took w u.used (level_of u.level) some.0 some.1 (omega (arith, inside, some.0)) least fits.0 enough (omega (arith, inside))
+      took w u.used (level_of u.value) some.0 some.1 (omega (arith, inside, some.0)) least fits.0 enough (omega (arith, inside))
       (rw (step.0, step.1) (next (omega (arith, inside)) (omega (arith, step.1, fits)) (omega (arith, step.1, enough))))
 
   -- the row's last group

@@ -1,21 +1,21 @@
 -- Coefficients of selector 0 under another selector. Assumes nothing.
-use borrow.Author.Tests.{eqb-true, eqb-false, not-true, not-false, eq-eqb, ne_eqb, lt-ltb, le-ltb}
+use borrow.Author.Tests.{ne_eqb, lt-ltb, le-ltb}
 use mathlib.Core.Path.{◌≡◌, refl, sym, ap, ◌∙◌}
-use mathlib.Core.Bool.{Bool, true, false, not, cond}
+use mathlib.Core.Bool.{Bool, true, false, cond}
 use Prim.Native.Nat.{ℕ, zero, suc, ◌+◌, ◌-◌, ◌*◌, ◌/◌, ◌%◌, ◌^◌, ◌≤◌, ◌<◌}
 use native.Mathlib.Nat.{pow-suc}
 use native.Mathlib.Omega.{arith}
 use lib.Dec.{eqb}
 use lib.Pow.{pow_pos, pow_mono}
 use lib.IntN.{ℤ, pos, negsuc, neg_ℤ, nat_abs, ◌+ℤ◌, ◌-ℤ◌, ◌*ℤ◌, neg_ℤ-+ℤ, +ℤ_assoc, +ℤ_idl}
-use lib.Signed.{lt_z, rem_z}
+use lib.Signed.{lt_z}
 use mir.Syntax.{w32}
 use mir.Val.{SFits, to_z, of_z}
 use mir.ValLaws.{to_z_pos}
 use Rattle.wrap32.specs.Cut.{low, cut, wrap}
 use Rattle.wrap32.specs.Edge.{sign_of}
-use Rattle.wrap32.proofs.Laws.{of-cond, cut-id, cut-add-l, low-neg32, less-some, odd-bit}
-use Rattle.rows.specs.declared.Quad.{Quad}
+use Rattle.wrap32.proofs.Laws.{of-cond, cut-id, cut-add-l, low-neg32, less-some}
+use Rattle.bits.specs.declared.Four.{Four}
 use Rattle.rows.specs.Word.{scaled_of, signed_of, split_of, quad_of}
 use Rattle.rows.specs.Stretch.{stretch_of, stretch_quad}
 use Rattle.rows.proofs.WordLaws.{short, front-lt, scaled-zero, scaled-none, scaled-some, signed-none, signed-fits}
@@ -64,36 +64,30 @@ stretch-signed (suc n) (suc k) bit small h =
     stretch-nonzero n (suc k) (omega arith) bit ∙ cut-id w32 (signed_of v bit) (signed-fits v bit (short (suc n) (suc k) small h).bound)
 
 -- selector 0 changes nothing
-pub stretch-none : (q : Quad) → q ≡ stretch_quad 0 q
+pub stretch-none : (q : Four ℤ) → q ≡ stretch_quad 0 q
 unfolding stretch_of
 stretch-none q = refl
 
 -- four of them
-pub stretch-quad : (sel word w n : ℕ) → sel < 16 → word < 2 ^ 64 → w ≤ 12 → stretch_quad sel (quad_of 0 word w n) ≡ quad_of sel word w n
+pub stretch-quad : (sel word w n : ℕ) → sel < 16 → word < 2 ^ 64 → w ≤ 12
+    → (stretch_quad sel (quad_of 0 word w n).value ≡ (quad_of sel word w n).value) × ((quad_of 0 word w n).used ≡ (quad_of sel word w n).used)
 unfolding quad_of split_of
 stretch-quad sel word w n below fits most =
     let b = word * 2 ^ w % 2 ^ 64 in
     let c = b * 2 ^ w % 2 ^ 64 in
     let d = c * 2 ^ w % 2 ^ 64 in
-    let f : (u : ℕ) → u < 2 ^ 12 → (bit : ℕ) → stretch_of sel (signed_of u bit) ≡ signed_of (scaled_of u sel) bit = λ u small bit. stretch-signed u sel bit small below in
-    simp (
-      scaled-zero,
-      f (word / 2 ^ (64 - w)) (front-lt word w fits most),
-      f (b / 2 ^ (64 - w)) (front-lt b w (omega arith) most),
-      f (c / 2 ^ (64 - w)) (front-lt c w (omega arith) most),
-      f (d / 2 ^ (64 - w)) (front-lt d w (omega arith) most),
+    let f : (u : ℕ) → u < 2 ^ 12 → (bit : ℕ) → stretch_of sel (signed_of u bit) ≡ signed_of (scaled_of u sel) bit = λ u small bit. stretch-signed u sel bit small below in (
+      simp (
+        scaled-zero,
+        f (word / 2 ^ (64 - w)) (front-lt word w fits most),
+        f (b / 2 ^ (64 - w)) (front-lt b w (omega arith) most),
+        f (c / 2 ^ (64 - w)) (front-lt c w (omega arith) most),
+        f (d / 2 ^ (64 - w)) (front-lt d w (omega arith) most),
+      ),
+      refl,
     )
 
 -- ---- the same as the code has it
--- the remainder of 2
-pub even : (x : ℤ) → of_z w32 (rem_z x (pos 2)) ≡ 0 → nat_abs x % 2 ≡ 0
-even x e = eqb-true (nat_abs x % 2) 0 (not-false (eqb (nat_abs x % 2) 0) (sym (odd-bit x) ∙ ap not (eq-eqb (of_z w32 (rem_z x (pos 2))) 0 e)))
-
-pub uneven : (x : ℤ) → (of_z w32 (rem_z x (pos 2)) ≡ 0 → ⊥) → nat_abs x % 2 ≡ 1
-uneven x e =
-    let some = eqb-false (nat_abs x % 2) 0 (not-true (eqb (nat_abs x % 2) 0) (sym (odd-bit x) ∙ ap not (ne_eqb (of_z w32 (rem_z x (pos 2))) 0 e))) in
-    omega arith
-
 -- a shift left cuts the product
 low-scale : (x : ℤ) (k : ℕ) → SFits w32 x → low w32 (x *ℤ pos k) ≡ of_z w32 x * k % 2 ^ 32
 low-scale (pos n) k f = refl

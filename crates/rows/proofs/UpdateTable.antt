@@ -14,7 +14,7 @@ use mir.Syntax.{w8, w64}
 use mir.Val.{SFits}
 use Rattle.wrap32.proofs.Laws.{of-cond, less-some, less_none, mag-add}
 use Rattle.format.proofs.BitLaws.{le-or-lt}
-use Rattle.bits.specs.declared.Change.{Change}
+use Rattle.bits.specs.declared.Used.{Used}
 use Rattle.bits.specs.View.{change_of}
 use Rattle.rows.specs.Word.{level_of, move_of, length_of}
 
@@ -36,12 +36,12 @@ pub level-fits : (w k : ℕ) → w ≤ 12 → SFits w64 (pos w +ℤ move_of k)
 level-fits w k h = record { sfits = omega (arith, mag-add (pos w) (move_of k) 13 (2 ^ 7) (omega arith) (move-fits k).sfits) }
 
 -- a width that an update gives
-pub change-few : (t w : ℕ) → (change_of t w).width ≤ w + 65
+pub change-few : (t w : ℕ) → (change_of t w).value ≤ w + 65
 unfolding change_of
 change-few t w =
     let z = leading_le 64 (t * 2 ^ 2 % 2 ^ 64) in
-    of-cond (λ (c : Change). c.width ≤ w + 65) (ltb t (2 ^ 63)) _ _ (λ _. omega arith)
-    (λ _. of-cond (λ (c : Change). c.width ≤ w + 65) (ltb t (2 ^ 63 + 2 ^ 62)) _ _ (λ _. omega arith) (λ _. omega arith))
+    of-cond (λ (c : Used ℕ). c.value ≤ w + 65) (ltb t (2 ^ 63)) _ _ (λ _. omega arith)
+    (λ _. of-cond (λ (c : Used ℕ). c.value ≤ w + 65) (ltb t (2 ^ 63 + 2 ^ 62)) _ _ (λ _. omega arith) (λ _. omega arith))
 
 -- a number less one that is no smaller is not above 0
 pub less-low : (w d : ℕ) → w ≤ d → le_z (pos w -ℤ pos d) (pos 0) ≡ true
@@ -56,10 +56,10 @@ module _ (word w d : ℕ) (fits : word < 2 ^ 64) (one : 1 ≤ w) (count : d ≡ 
   abbrev target : ℤ
   target = pos w +ℤ cond (eqb (word / 2 ^ 62 % 2) 0) (pos d) (neg_ℤ (pos d))
 
-  abbrev reckoned : Change
+  abbrev reckoned : Used ℕ
   reckoned =
       record {
-        width = cond (ltb word (2 ^ 63)) w (level_of target);
+        value = cond (ltb word (2 ^ 63)) w (level_of target);
         used = cond (ltb word (2 ^ 63)) 0 (cond (le_z target (pos 0)) w (d + 1)) + 1;
       }
 
@@ -129,7 +129,7 @@ module _ (t w : ℕ) (fits : t < 2 ^ 64) (one : 1 ≤ w) where
   bits = cond (le_z level (pos 0)) (w + 1) (length_of first)
 
   abbrev Same : Type 0
-  Same = (level_of level ≡ (change_of t w).width) × (bits ≡ (change_of t w).used)
+  Same = (level_of level ≡ (change_of t w).value) × (bits ≡ (change_of t w).used)
 
   -- '0': the width stays
   kept : t < 2 ^ 63 → Same

@@ -18,11 +18,11 @@ use Rattle.format.specs.Reader.{Reader, skipped}
 use Rattle.format.proofs.BitLaws.{le-or-lt, bits-lt, bits-low, prefix, middle_of}
 use Rattle.format.proofs.FourLaws.{four-within}
 use Rattle.format.proofs.WordReads.{read-within}
-use Rattle.bits.specs.declared.Change.{Change}
+use Rattle.bits.specs.declared.Used.{Used}
 use Rattle.bits.specs.View.{change_of}
 use Rattle.bits.proofs.WordUpdate.{change-update}
 use Rattle.format.specs.Coefficients.{Four, value_of, sign_of, signs_of, width_next, group_of}
-use Rattle.rows.specs.declared.Quad.{Quad}
+use Rattle.bits.specs.declared.Four as code
 use Rattle.rows.specs.Word.{scaled_of, nonzero_of, signed_of, split_of, with_signs, quad_of}
 use Rattle.rows.proofs.Numbers.{le-shl, value-plain, value_none, value-some}
 
@@ -50,7 +50,7 @@ pub record Short (u sel : ℕ) : Type 0 where
 
 pub scaled-none : (u sel : ℕ) → u ≡ 0 → scaled_of u sel ≡ 0
 unfolding scaled_of
-scaled-none u sel e = ⊎_elim (λ (h : sel ≤ 0). simp (eq-eqb sel 0 (omega arith), e)) (λ (h : 0 < sel). simp (ne_eqb sel 0 (λ z. omega arith), eq-eqb u 0 e, e)) (le-or-lt sel 0)
+scaled-none u sel e = ⊎_elim (λ (h : sel ≤ 0). simp (eq-eqb sel 0 (omega arith), e)) (λ (h : 0 < sel). simp (ne_eqb sel 0 (λ z. omega arith), e)) (le-or-lt sel 0)
 
 pub scaled-some : (u sel : ℕ) → 0 < u → 0 < sel → scaled_of u sel ≡ (2 * u + 1) * 2 ^ (sel - 1) - u % 2
 unfolding scaled_of
@@ -163,10 +163,10 @@ module _ (s : List ℕ) (r : Reader) (word sel n : ℕ) (below : sel < 16) (hold
   sign-first u small = simp (add-zero, sub-zero, zero-add) at (sign_at u 0 small (omega arith))
 
   module _ (q : Four) (a : q.a < 2 ^ 12) (b : q.b < 2 ^ 12) (c : q.c < 2 ^ 12) (d : q.d < 2 ^ 12) where
-    abbrev with-signs : Quad
+    abbrev with-signs : Used (code.Four ℤ)
     with-signs = with_signs sel (record { a = q.a; b = q.b; c = q.c; d = q.d }) word (63 - n)
 
-    signs-quad : signs_of s sel q (skipped r n) ≡ record { a = with-signs.a; b = with-signs.b; c = with-signs.c; d = with-signs.d; reader = skipped r (n + with-signs.used) }
+    signs-quad : signs_of s sel q (skipped r n) ≡ record { a = with-signs.value.a; b = with-signs.value.b; c = with-signs.value.c; d = with-signs.value.d; reader = skipped r (n + with-signs.used) }
     unfolding signs_of
     signs-quad =
         let n1 = nonzero_of q.a in
@@ -183,11 +183,11 @@ module _ (s : List ℕ) (r : Reader) (w word g : ℕ) where
   unfolding width_next
   next_last h = simp (le-leb g 1 h)
 
-  abbrev word-change : Change
+  abbrev word-change : Used ℕ
   word-change = change_of (word * 2 ^ (4 * w) % 2 ^ 64) w
 
   pub next_more : r.status ≡ 0 → word / 2 ^ 7 ≡ bits_at s r.place 57 → 1 < g → 4 * w + word-change.used ≤ 57 → 4 * w + word-change.used ≤ r.remaining
-      → width_next s g w (skipped r (4 * w)) ≡ record { value = word-change.width; reader = skipped r (4 * w + word-change.used) }
+      → width_next s g w (skipped r (4 * w)) ≡ record { value = word-change.value; reader = skipped r (4 * w + word-change.used) }
   unfolding width_next
   next_more go holds more short enough =
       let n = 4 * w in
@@ -205,7 +205,7 @@ module _ (s : List ℕ) (r : Reader) (sel w word g n w' : ℕ) (fits : word < 2 
 
   pub group-word : group_of s sel g (record { value = w; reader = r })
       ≡ record {
-        values = (quad_of sel word w n).a ∷ (quad_of sel word w n).b ∷ (quad_of sel word w n).c ∷ (quad_of sel word w n).d ∷ [];
+        values = (quad_of sel word w n).value.a ∷ (quad_of sel word w n).value.b ∷ (quad_of sel word w n).value.c ∷ (quad_of sel word w n).value.d ∷ [];
         width = w';
         reader = skipped r (n + (quad_of sel word w n).used);
       }

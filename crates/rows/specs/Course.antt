@@ -45,7 +45,7 @@ moved_to r place = record { place = place; remaining = r.place + r.remaining - p
 -- what is left after runs and groups are taken out of words: a place in the row, with the width as it was if nothing was taken
 pub record Done (s : List ℕ) (n out w out' w' : ℕ) (r : BitReader) : Type 0 where
   pub ready : Ready s r
-  pub going : r.status ≡ 0
+  pub going : (as_reader r).status ≡ 0
   pub forward : out ≤ out'
   pub inside : out' < n + 4
   pub still : out' ≡ out → w' ≡ w

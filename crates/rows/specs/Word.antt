@@ -5,24 +5,23 @@ use Rattle.std.specs.Int.Count.{count_leading_zeros}
 use Rattle.format.specs.Bits.{bits_at}
 use Rattle.format.specs.Reader.{Reader, skipped}
 use Rattle.format.specs.Coefficients.{zeros_of}
-use Rattle.bits.specs.declared.Change.{Change}
+use Rattle.bits.specs.declared.Four.{Four}
+use Rattle.bits.specs.declared.Used.{Used}
 use Rattle.bits.specs.View.{change_of}
 use Rattle.lists.specs.Lists.{tab}
-use Rattle.rows.specs.declared.Quad.{Quad}
 use Rattle.rows.specs.declared.Run.{Run}
-use Rattle.rows.specs.declared.SignBit.{SignBit}
 
 -- a value with its sign from a word of four sign bits, of which some are used
-unfoldable pub sign_bit_of : ℤ → ℕ → ℕ → SignBit
+unfoldable pub sign_bit_of : ℤ → ℕ → ℕ → Used ℤ
 sign_bit_of z word used =
     cond (lt_z (pos 0) z) (record { value = cond (eqb (word / 2 ^ (3 - used) % 2) 0) z (neg_ℤ z); used = used + 1 })
     (record { value = z; used = used })
 
 -- the width after a group, and the bits of its values and its update
-abbrev pub step_of : ℕ → ℕ → Change
+abbrev pub step_of : ℕ → ℕ → Used ℕ
 step_of word w =
     let u = change_of (word * 2 ^ (4 * w) % 2 ^ 64) w in
-    record { width = u.width; used = 4 * w + u.used }
+    record { value = u.value; used = 4 * w + u.used }
 
 -- a width that may be reckoned below 0, where it counts as 0
 unfoldable pub level_of : ℤ → ℕ
@@ -38,9 +37,9 @@ move_of k =
 unfoldable pub length_of : ℕ → ℕ
 length_of k = cond (ltb k 16) 1 (cond (eqb (k % 8) 0) 64 (count_leading_zeros 3 (k % 8) + 3))
 
--- the tables of both
-abbrev pub Tables : List ℤ → List ℕ → Type 0
-Tables moves lengths = (moves ≡ tab 32 move_of) × (lengths ≡ tab 32 length_of)
+-- the table of both
+abbrev pub Tables : List (ℤ × ℕ) → Type 0
+Tables updates = updates ≡ tab 32 (λ k. (move_of k, length_of k))
 
 -- h is the zero run that the word starts with, wherever the word holds all its bits
 pub record Runs (word left : ℕ) (h : Run) : Type 0 where
@@ -62,15 +61,8 @@ nonzero_of u = cond (eqb u 0) 0 1
 unfoldable pub signed_of : ℕ → ℕ → ℤ
 signed_of m bit = cond (eqb bit 0) (pos m) (neg_ℤ (pos m))
 
--- four values
-pub record Split : Type 0 where
-  pub a : ℕ
-  pub b : ℕ
-  pub c : ℕ
-  pub d : ℕ
-
 -- the four values of a word's first 4 w bits
-unfoldable pub split_of : ℕ → ℕ → Split
+unfoldable pub split_of : ℕ → ℕ → Four ℕ
 split_of word w =
     let b = word * 2 ^ w % 2 ^ 64 in
     let c = b * 2 ^ w % 2 ^ 64 in
@@ -78,25 +70,27 @@ split_of word w =
     record { a = word / 2 ^ (64 - w); b = b / 2 ^ (64 - w); c = c / 2 ^ (64 - w); d = d / 2 ^ (64 - w) }
 
 -- under a selector, with their signs from the bits of a word from its bit `left` on, downward
-abbrev pub with_signs : ℕ → Split → ℕ → ℕ → Quad
+abbrev pub with_signs : ℕ → Four ℕ → ℕ → ℕ → Used (Four ℤ)
 with_signs sel v word left =
     let n1 = nonzero_of v.a in
     let n2 = n1 + nonzero_of v.b in
     let n3 = n2 + nonzero_of v.c in
     record {
-      a = signed_of (scaled_of v.a sel) (word / 2 ^ left % 2);
-      b = signed_of (scaled_of v.b sel) (word / 2 ^ (left - n1) % 2);
-      c = signed_of (scaled_of v.c sel) (word / 2 ^ (left - n2) % 2);
-      d = signed_of (scaled_of v.d sel) (word / 2 ^ (left - n3) % 2);
+      value = record {
+        a = signed_of (scaled_of v.a sel) (word / 2 ^ left % 2);
+        b = signed_of (scaled_of v.b sel) (word / 2 ^ (left - n1) % 2);
+        c = signed_of (scaled_of v.c sel) (word / 2 ^ (left - n2) % 2);
+        d = signed_of (scaled_of v.d sel) (word / 2 ^ (left - n3) % 2);
+      };
       used = n3 + nonzero_of v.d;
     }
 
 -- with the signs after so many bits of the same word
-unfoldable pub quad_of : ℕ → ℕ → ℕ → ℕ → Quad
+unfoldable pub quad_of : ℕ → ℕ → ℕ → ℕ → Used (Four ℤ)
 quad_of sel word w used = with_signs sel (split_of word w) word (63 - used)
 
 -- four values in their places
-abbrev pub store_quad : List ℤ → ℕ → Quad → List ℤ
+abbrev pub store_quad : List ℤ → ℕ → Four ℤ → List ℤ
 store_quad l i q = set (set (set (set l i q.a) (i + 1) q.b) (i + 2) q.c) (i + 3) q.d
 
 -- what the loops of runs and groups ask of the next one

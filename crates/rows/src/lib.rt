@@ -3,34 +3,18 @@
 
 ghost use Rattle.std.specs.Prelude.{◌≡◌, true, false, cond, List, ℕ, ◌+◌, ◌-◌, ◌*◌, ◌%◌, ◌^◌, ◌<◌, ◌≤◌, min, pos, neg_ℤ, nat_abs, eqb, length, set};
 ghost use Rattle.std.specs.Int.Signed.{lt_z};
+ghost use Rattle.std.proofs.Common.{lit<};
 ghost use Rattle.format.specs.Coefficients.{value_of, sign_of, signs_of, width_after, width_next, group_of, zeros_of, zeros, stopped, row_of};
 ghost use Rattle.format.specs.Used.{row_used};
 ghost use Rattle.bits.specs.View.{as_reader, as_taken, as_four, Ready};
 ghost use Rattle.rows.specs.View.{as_signed, as_signed_four, as_group, as_run};
-ghost use Rattle.rows.specs.Word.{sign_bit_of, nonzero_of, signed_of, quad_of, store_quad, level_of, Tables, Near, Ends, Runs, step_of};
+ghost use Rattle.rows.specs.Word.{sign_bit_of, nonzero_of, signed_of, quad_of, store_quad, level_of, Near, Ends, Runs, step_of};
 ghost use Rattle.rows.specs.Stretch.{stretch_of, stretch_quad};
 ghost use Rattle.rows.specs.Course.{state_of, moved_to, Halted, Clean, Onward, Done};
 
-use bits::{BitReader, Four, Taken, bit_length, changed};
-use words::{after, least, less, window};
+use bits::{BitReader, Four, Status, Taken, Used, bit_length, changed};
+use words::{after, window};
 use wrap32::cut32;
-
-// A coefficient, and the reader after it.
-#[derive(Clone, Copy)]
-struct Signed {
-    value: i32,
-    reader: BitReader,
-}
-
-// Four coefficients, and the reader after them.
-#[derive(Clone, Copy)]
-struct SignedFour {
-    a: i32,
-    b: i32,
-    c: i32,
-    d: i32,
-    reader: BitReader,
-}
 
 // The value u under a selector.
 fn value(u: u64, selector: u64) -> i32
@@ -55,7 +39,7 @@ fn with_sign(z: i32, bit: u64) -> i32
 }
 
 // A value with its sign.
-fn sign(z: i32, reader: BitReader, packet: &[u8]) -> Signed
+fn sign(z: i32, reader: BitReader, packet: &[u8]) -> Taken<i32>
     requires { Ready packet.now reader }
     ensures value { as_signed result ≡ sign_of packet.now z (as_reader reader) }
     ensures ready { Ready packet.now result.reader }
@@ -63,85 +47,74 @@ fn sign(z: i32, reader: BitReader, packet: &[u8]) -> Signed
     if 0 < z {
         let t = reader.read(packet, 1);
         let after = t.reader;
-        return Signed {
+        return Taken {
             value: with_sign(z, t.value),
             reader: after,
         };
     }
-    Signed { value: z, reader }
+    Taken { value: z, reader }
 }
 
-// A group, and the width and the reader after it.
+// What is decoded of a row, and the width and the reader after it.
 #[derive(Clone, Copy)]
-struct GroupAnswer {
-    a: i32,
-    b: i32,
-    c: i32,
-    d: i32,
-    width: u64,
-    reader: BitReader,
-}
-
-// A run of zero groups, and the width and the reader after it.
-#[derive(Clone, Copy)]
-struct RunAnswer {
-    groups: u64,
+struct Decoded<T> {
+    value: T,
     width: u64,
     reader: BitReader,
 }
 
 // The signs of four values, one by one.
-fn signs_apart(q: Four, selector: u64, reader: BitReader, packet: &[u8]) -> SignedFour
+fn signs_apart(
+    q: Taken<Four<u64>>,
+    selector: u64,
+    reader: BitReader,
+    packet: &[u8],
+) -> Taken<Four<i32>>
     requires ready { Ready packet.now reader }
     requires selector_bound { selector < 16 }
-    requires short { (q.a < 2 ^ 19) × (q.b < 2 ^ 19) × (q.c < 2 ^ 19) × (q.d < 2 ^ 19) }
+    requires short { (q.value.a < 2 ^ 19) × (q.value.b < 2 ^ 19) × (q.value.c < 2 ^ 19) × (q.value.d < 2 ^ 19) }
     ensures value { as_signed_four result ≡ signs_of packet.now selector (as_four q) (as_reader reader) }
     ensures still_ready { Ready packet.now result.reader }
 {
-    let a = sign(value(q.a, selector), reader, packet);
+    let a = sign(value(q.value.a, selector), reader, packet);
     let ra = a.reader;
-    let b = sign(value(q.b, selector), ra, packet);
+    let b = sign(value(q.value.b, selector), ra, packet);
     let rb = b.reader;
-    let c = sign(value(q.c, selector), rb, packet);
+    let c = sign(value(q.value.c, selector), rb, packet);
     let rc = c.reader;
-    let d = sign(value(q.d, selector), rc, packet);
+    let d = sign(value(q.value.d, selector), rc, packet);
     let rd = d.reader;
-    SignedFour {
-        a: a.value,
-        b: b.value,
-        c: c.value,
-        d: d.value,
+    Taken {
+        value: Four {
+            a: a.value,
+            b: b.value,
+            c: c.value,
+            d: d.value,
+        },
         reader: rd,
     }
 }
 
-// A value with its sign, and how many sign bits of a word of four are used after it.
-#[derive(Clone, Copy)]
-struct SignBit {
-    value: i32,
-    used: u64,
-}
-
-// A value with its sign from a word of four sign bits, of which some are used.
-fn sign_bit(v: i32, word: u64, used: u64) -> SignBit
+// A value with its sign from a word of four sign bits, of which some are used, and how many are used after it.
+fn sign_bit(v: i32, word: u64, used: u64) -> Used<i32>
     requires { used < 4 }
     ensures value { result ≡ sign_bit_of v word used }
     ensures used_bound { result.used ≤ used + 1 }
 {
     if 0 < v {
-        return SignBit {
+        return Used {
             value: with_sign(v, (word >> (3 - used)) % 2),
             used: used + 1,
         };
     }
-    SignBit { value: v, used }
+    Used { value: v, used }
 }
 
 // The signs of four values. One word holds them all, but near the end of the allowance.
-fn signs(q: Four, selector: u64, reader: BitReader, packet: &[u8]) -> SignedFour
+fn signs(q: Taken<Four<u64>>, selector: u64, reader: BitReader, packet: &[u8]) -> Taken<Four<i32>>
     requires ready { Ready packet.now reader }
     requires selector_bound { selector < 16 }
-    requires short { (q.a < 2 ^ 19) × (q.b < 2 ^ 19) × (q.c < 2 ^ 19) × (q.d < 2 ^ 19) }
+    requires short { (q.value.a < 2 ^ 19) × (q.value.b < 2 ^ 19) × (q.value.c < 2 ^ 19) × (q.value.d < 2 ^ 19) }
     ensures value { as_signed_four result ≡ signs_of packet.now selector (as_four q) (as_reader reader) }
     ensures still_ready { Ready packet.now result.reader }
 {
@@ -149,21 +122,23 @@ fn signs(q: Four, selector: u64, reader: BitReader, packet: &[u8]) -> SignedFour
         return signs_apart(q, selector, reader, packet);
     }
     let word = reader.ahead(packet, 4);
-    let a = sign_bit(value(q.a, selector), word, 0);
-    let b = sign_bit(value(q.b, selector), word, a.used);
-    let c = sign_bit(value(q.c, selector), word, b.used);
-    let d = sign_bit(value(q.d, selector), word, c.used);
-    SignedFour {
-        a: a.value,
-        b: b.value,
-        c: c.value,
-        d: d.value,
+    let a = sign_bit(value(q.value.a, selector), word, 0);
+    let b = sign_bit(value(q.value.b, selector), word, a.used);
+    let c = sign_bit(value(q.value.c, selector), word, b.used);
+    let d = sign_bit(value(q.value.d, selector), word, c.used);
+    Taken {
+        value: Four {
+            a: a.value,
+            b: b.value,
+            c: c.value,
+            d: d.value,
+        },
         reader: reader.skip(packet, d.used),
     }
 }
 
 // The width after a zero run.
-fn width_after(reader: BitReader, packet: &[u8], left: u64) -> Taken
+fn width_after(reader: BitReader, packet: &[u8], left: u64) -> Taken<u64>
     requires { Ready packet.now reader }
     ensures value { as_taken result ≡ width_after packet.now left (as_reader reader) }
     ensures ready { Ready packet.now result.reader }
@@ -175,7 +150,7 @@ fn width_after(reader: BitReader, packet: &[u8], left: u64) -> Taken
 }
 
 // The width after a group's values.
-fn width_next(reader: BitReader, packet: &[u8], width: u64, groups: u64) -> Taken
+fn width_next(reader: BitReader, packet: &[u8], width: u64, groups: u64) -> Taken<u64>
     requires ready { Ready packet.now reader }
     requires width_bound { width ≤ 19 }
     ensures value { as_taken result ≡ width_next packet.now groups width (as_reader reader) }
@@ -187,11 +162,17 @@ fn width_next(reader: BitReader, packet: &[u8], width: u64, groups: u64) -> Take
             reader,
         };
     }
-    reader.width_update(packet, width)
+    reader.width_update::<false>(packet, width)
 }
 
 // A group of four values.
-fn group(reader: BitReader, packet: &[u8], width: u64, selector: u64, groups: u64) -> GroupAnswer
+fn group(
+    reader: BitReader,
+    packet: &[u8],
+    width: u64,
+    selector: u64,
+    groups: u64,
+) -> Decoded<Four<i32>>
     requires ready { Ready packet.now reader }
     requires width_bound { (width ≤ 19) × (selector < 16) }
     ensures value { as_group result ≡ group_of packet.now selector groups (state_of width reader) }
@@ -203,49 +184,44 @@ fn group(reader: BitReader, packet: &[u8], width: u64, selector: u64, groups: u6
     let rn = n.reader;
     let z = signs(q, selector, rn, packet);
     let rz = z.reader;
-    GroupAnswer {
-        a: z.a,
-        b: z.b,
-        c: z.c,
-        d: z.d,
+    Decoded {
+        value: z.value,
         width: n.value,
         reader: rz,
     }
 }
 
 // A run of zero groups.
-fn zero_groups(reader: BitReader, packet: &[u8], groups: u64) -> RunAnswer
+fn zero_groups(reader: BitReader, packet: &[u8], groups: u64) -> Decoded<u64>
     requires ready { Ready packet.now reader }
     requires some { (0 < groups) × (groups < 2 ^ 32) }
     ensures value { as_run result ≡ zeros_of packet.now groups (as_reader reader) }
     ensures still_ready { Ready packet.now result.reader }
-    ensures some_groups { (0 < result.groups) × (result.groups ≤ groups) }
+    ensures some_groups { (0 < result.value) × (result.value ≤ groups) }
 {
     let run = reader.zero_run(packet, groups);
     let rr = run.reader;
     let n = width_after(rr, packet, groups - run.value);
     let rn = n.reader;
-    RunAnswer {
-        groups: run.value,
+    Decoded {
+        value: run.value,
         width: n.value,
         reader: rn,
     }
 }
 
-// Status 1 if it was 0.
+// A reader that has met a width above 19, where nothing stopped it before.
 fn stop(reader: BitReader) -> BitReader
     ensures value { as_reader result ≡ stopped (as_reader reader) }
     ensures still_ready { (s : List ℕ) → Ready s reader → Ready s result }
 {
-    if reader.status == 0 {
-        return BitReader {
-            place: reader.place,
-            cache: reader.cache,
-            remaining: reader.remaining,
-            status: 1,
-        };
+    if reader.status.stops() {
+        return reader;
     }
-    reader
+    BitReader {
+        status: Status::Broken,
+        ..reader
+    }
 }
 
 // A value at a place, if the slice has it.
@@ -257,27 +233,15 @@ fn put(dst: &mut [i32], i: usize, v: i32)
     }
 }
 
-// Zeros in all of a slice.
-pub fn clear(dst: &mut [i32])
-    ensures { dst.new ≡ zeros (length dst.old) }
-{
-    let n = dst.len();
-    let mut i: usize = 0;
-    while i < n {
-        dst[i] = 0;
-        i += 1;
-    }
-}
-
 // Four values at a place of a slice, as far as it goes.
-fn put4(dst: &mut [i32], i: usize, a: i32, b: i32, c: i32, d: i32)
+fn put4(dst: &mut [i32], i: usize, q: Four<i32>)
     requires { i < 2 ^ 63 }
-    ensures { dst.new ≡ set (set (set (set dst.old i a) (i + 1) b) (i + 2) c) (i + 3) d }
+    ensures { dst.new ≡ store_quad dst.old i q }
 {
-    put(dst, i, a);
-    put(dst, i + 1, b);
-    put(dst, i + 2, c);
-    put(dst, i + 3, d);
+    put(dst, i, q.a);
+    put(dst, i + 1, q.b);
+    put(dst, i + 2, q.c);
+    put(dst, i + 3, q.d);
 }
 
 // One of two numbers, without a branch.
@@ -291,14 +255,14 @@ fn pick(t: bool, a: u64, b: u64) -> u64
 fn above(y: i64) -> u64
     ensures { result ≡ level_of y }
 {
-    if y <= 0 { 0 } else { y as u64 }
+    y.max(0) as u64
 }
 
 // 1 for a value that takes a sign bit.
 fn nonzero(u: u64) -> u64
     ensures { (result ≡ nonzero_of u) × (result ≤ 1) }
 {
-    if u == 0 { 0 } else { 1 }
+    u64::from(u != 0)
 }
 
 // A short magnitude under a sign bit. It stands by itself so that it is compiled without a branch.
@@ -310,22 +274,12 @@ fn with_bit(m: u64, bit: u64) -> i32
     if bit == 0 { z } else { -z }
 }
 
-// Four values with their signs, and the sign bits that they take.
-#[derive(Clone, Copy)]
-struct Quad {
-    a: i32,
-    b: i32,
-    c: i32,
-    d: i32,
-    used: u64,
-}
-
-// Four values with their signs out of a word, of which `used` bits come before the signs.
-fn quad_word(word: u64, width: u64, used: u64) -> Quad
+// Four values with their signs out of a word, of which `used` bits come before the signs, and the sign bits that they take.
+fn quad_word(word: u64, width: u64, used: u64) -> Used<Four<i32>>
     requires { (1 ≤ width) × (width ≤ 12) × (used < 60) }
     ensures { (result ≡ quad_of 0 word width used) × (result.used ≤ 4) }
 {
-    let left = less(63, used);
+    let left = 63 - used;
     let down = 64 - width;
     let from_b = word << width;
     let from_c = from_b << width;
@@ -337,35 +291,33 @@ fn quad_word(word: u64, width: u64, used: u64) -> Quad
     let n1 = nonzero(a);
     let n2 = n1 + nonzero(b);
     let n3 = n2 + nonzero(c);
-    Quad {
-        a: with_bit(a, (word >> left) % 2),
-        b: with_bit(b, (word >> (left - n1)) % 2),
-        c: with_bit(c, (word >> (left - n2)) % 2),
-        d: with_bit(d, (word >> (left - n3)) % 2),
+    Used {
+        value: Four {
+            a: with_bit(a, (word >> left) % 2),
+            b: with_bit(b, (word >> (left - n1)) % 2),
+            c: with_bit(c, (word >> (left - n2)) % 2),
+            d: with_bit(d, (word >> (left - n3)) % 2),
+        },
         used: n3 + nonzero(d),
     }
 }
 
 // Four values at a place.
-fn put_quad(dst: &mut [i32], at: usize, q: Quad)
+fn put_quad(dst: &mut [i32], at: usize, q: Four<i32>)
     requires { at + 4 ≤ length dst.old }
     ensures { dst.new ≡ store_quad dst.old at q }
 {
-    let a = q.a;
-    let b = q.b;
-    let c = q.c;
-    let d = q.d;
-    dst[at] = a;
-    dst[at + 1] = b;
-    dst[at + 2] = c;
-    dst[at + 3] = d;
+    dst[at] = q.a;
+    dst[at + 1] = q.b;
+    dst[at + 2] = q.c;
+    dst[at + 3] = q.d;
 }
 
 // 1 for an odd number, else 0.
 fn odd(x: i32) -> i32
     ensures { result ≡ pos (nat_abs x % 2) }
 {
-    if x % 2 == 0 { 0 } else { 1 }
+    i32::from(x % 2 != 0)
 }
 
 // A number where a test holds, else 0.
@@ -386,33 +338,58 @@ fn stretched(x: i32, selector: u64) -> i32
     cut32(((x << selector) as i64) + (p as i64) - (q as i64))
 }
 
-// Four values of selector 0 under the selector.
-fn scaled(q: Quad, selector: u64) -> Quad
-    requires { (0 < selector) × (selector < 16) }
-    ensures { result ≡ stretch_quad selector q }
-{
-    Quad {
-        a: stretched(q.a, selector),
-        b: stretched(q.b, selector),
-        c: stretched(q.c, selector),
-        d: stretched(q.d, selector),
-        used: q.used,
-    }
+// What is done to four values of selector 0.
+trait Scale: Copy {
+    ghost selector: { Self → ℕ };
+
+    fn four(self, q: Four<i32>) -> Four<i32>
+        ensures { result ≡ stretch_quad (selector self) q };
+
+    ghost below: { (x : Self) → selector x < 16 };
 }
 
-// How far the decoding of a row has come: the next element, the width and the reader.
+// Selector 0 itself.
 #[derive(Clone, Copy)]
-struct Next {
-    out: usize,
-    width: u64,
-    reader: BitReader,
+struct Unscaled;
+
+impl Scale for Unscaled {
+    ghost selector = { λ _. 0 };
+
+    fn four(self, q: Four<i32>) -> Four<i32> {
+        q
+    }
+
+    ghost below = { λ _. lit< tt };
+}
+
+// A selector above 0.
+#[derive(Clone, Copy)]
+struct Scaled {
+    selector: u64,
+    ghost some: { 0 < selector },
+    ghost small: { selector < 16 },
+}
+
+impl Scale for Scaled {
+    ghost selector = { λ x. x.selector };
+
+    fn four(self, q: Four<i32>) -> Four<i32> {
+        Four {
+            a: stretched(q.a, self.selector),
+            b: stretched(q.b, self.selector),
+            c: stretched(q.c, self.selector),
+            d: stretched(q.d, self.selector),
+        }
+    }
+
+    ghost below = { λ x. x.small };
 }
 
 // The place before which two words stand whole in the packet.
 fn edge(packet: &[u8]) -> u64
     ensures { result ≡ min (length packet.now) (2 ^ 40) * 8 - 127 }
 {
-    less(least(packet.len() as u64, 0x100_0000_0000) * 8, 127)
+    ((packet.len() as u64).min(0x100_0000_0000) * 8).saturating_sub(127)
 }
 
 // Whether a run or a short group may be taken out of a word: before the row's last group, where two words stand whole in the packet.
@@ -453,7 +430,7 @@ fn run_word(word: u64, left: u64) -> Run
     ensures { Runs word left result }
 {
     let most = bit_length(left - 1);
-    let z = u64::leading_zeros(word) as u64;
+    let z = word.leading_zeros() as u64;
     if most <= z {
         return Run {
             groups: left,
@@ -469,7 +446,7 @@ fn run_word(word: u64, left: u64) -> Run
             used: 2 * z + 1,
         };
     }
-    let u = u64::leading_zeros(word << (2 * z + 1)) as u64;
+    let u = (word << (2 * z + 1)).leading_zeros() as u64;
     Run {
         groups: v,
         width: u + 1,
@@ -477,46 +454,64 @@ fn run_word(word: u64, left: u64) -> Run
     }
 }
 
-// The width after a group, 0 where it is below 0, and the bits of its values and its update.
-#[derive(Clone, Copy)]
-struct Step {
-    level: i64,
-    used: u64,
-}
-
 // What a width update does to the width, by its first five bits: '0' keeps it, '10' and '11' move it up and down by one more than the zeros
-// that follow.
-const MOVES: [i8; 32] = [
-    0, 0, 0, 0, 0, 0, 0, 0, 0, 0, 0, 0, 0, 0, 0, 0, 4, 3, 2, 2, 1, 1, 1, 1, -4, -3, -2, -2, -1, -1,
-    -1, -1,
+// that follow. Beside it the bits of the update, where they are no more than five; else 64.
+static UPDATES: [(i8, u8); 32] = [
+    (0, 1),
+    (0, 1),
+    (0, 1),
+    (0, 1),
+    (0, 1),
+    (0, 1),
+    (0, 1),
+    (0, 1),
+    (0, 1),
+    (0, 1),
+    (0, 1),
+    (0, 1),
+    (0, 1),
+    (0, 1),
+    (0, 1),
+    (0, 1),
+    (4, 64),
+    (3, 5),
+    (2, 4),
+    (2, 4),
+    (1, 3),
+    (1, 3),
+    (1, 3),
+    (1, 3),
+    (-4, 64),
+    (-3, 5),
+    (-2, 4),
+    (-2, 4),
+    (-1, 3),
+    (-1, 3),
+    (-1, 3),
+    (-1, 3),
 ];
 
-// The bits of the update, where they are no more than five; else 64.
-const LENGTHS: [u8; 32] = [
-    1, 1, 1, 1, 1, 1, 1, 1, 1, 1, 1, 1, 1, 1, 1, 1, 64, 5, 4, 4, 3, 3, 3, 3, 64, 5, 4, 4, 3, 3, 3,
-    3,
-];
-
-// The step of a group out of a word: by the tables, or, where its update is longer than theirs, by the zeros in it.
-fn step_word(word: u64, width: u64, moves: &[i8], lengths: &[u8]) -> Step
-    requires short { (1 ≤ width) × (width ≤ 12) }
-    requires tables { Tables moves.now lengths.now }
-    ensures step { (level_of result.level ≡ (step_of word width).width) × (result.used ≡ (step_of word width).used) }
+// The width after a group, 0 where it is below 0, and the bits of its values and its update, out of a word: by the table, or, where the
+// update is longer, by the zeros in it.
+fn step_word(word: u64, width: u64) -> Used<i64>
+    requires { (1 ≤ width) × (width ≤ 12) }
+    ensures step { (level_of result.value ≡ (step_of word width).value) × (result.used ≡ (step_of word width).used) }
     ensures used_bound { result.used ≤ 115 }
 {
     let rest = word << (4 * width);
     let k = (rest >> 59) as usize;
-    let level = (width as i64) + (moves[k] as i64);
-    let bits = pick(level <= 0, width + 1, lengths[k] as u64);
+    let (by, length) = UPDATES[k];
+    let level = (width as i64) + (by as i64);
+    let bits = pick(level <= 0, width + 1, length as u64);
     if 16 < bits {
         let u = changed(rest, width);
-        return Step {
-            level: u.width as i64,
+        return Used {
+            value: u.value as i64,
             used: 4 * width + u.used,
         };
     }
-    Step {
-        level,
+    Used {
+        value: level,
         used: 4 * width + bits,
     }
 }
@@ -539,44 +534,43 @@ fn ends(width: u64, out: usize, n: usize, place: u64, stop: u64) -> bool
 }
 
 // A point of a row, with the reader that has come to it.
-fn arrived(reader: BitReader, place: u64, word: u64, width: u64, out: usize) -> Next
+fn arrived(reader: BitReader, place: u64, word: u64, width: u64, out: usize) -> Decoded<usize>
     requires { (reader.place ≤ place) × (place ≤ reader.place + reader.remaining) × (reader.place + reader.remaining < 2 ^ 40) }
-    ensures { (result.out ≡ out) × (result.width ≡ width) × (as_reader result.reader ≡ moved_to (as_reader reader) place) × (result.reader.cache ≡ word) }
+    ensures { (result.value ≡ out) × (result.width ≡ width) × (as_reader result.reader ≡ moved_to (as_reader reader) place) × (result.reader.cache ≡ word) }
 {
-    Next {
-        out,
+    Decoded {
+        value: out,
         width,
         reader: BitReader {
             place,
             cache: word,
             remaining: reader.place + reader.remaining - place,
-            status: reader.status,
+            ..reader
         },
     }
 }
 
-// Runs and groups out of single words, as long as each stands whole in its word, under selector 0. The rest of the row is 0 already. Each
-// turn hands the next one its word.
-fn fast(
+// Runs and groups out of single words, as long as each stands whole in its word. The rest of the row is 0 already. Each turn hands the next
+// one its word.
+fn fast<S: Scale>(
     reader: BitReader,
     packet: &[u8],
     width: u64,
+    scale: S,
     dst: &mut [i32],
     out: usize,
-    moves: &[i8],
-    lengths: &[u8],
-) -> Next
+) -> Decoded<usize>
     requires ready { Ready packet.now reader }
-    requires going { (reader.status ≡ 0) × (length dst.old < 2 ^ 32) × (out < length dst.old) × (width ≤ 19) }
-    requires clean { Clean dst.old out × Tables moves.now lengths.now }
-    ensures onward { Onward packet.now 0 dst.old out (state_of width reader) dst.new result.out (state_of result.width result.reader) }
-    ensures done { Done packet.now (length dst.old) out width result.out result.width result.reader }
+    requires going { ((as_reader reader).status ≡ 0) × (length dst.old < 2 ^ 32) × (out < length dst.old) × (width ≤ 19) }
+    requires clean { Clean dst.old out }
+    ensures onward { Onward packet.now (S.selector scale) dst.old out (state_of width reader) dst.new result.value (state_of result.width result.reader) }
+    ensures done { Done packet.now (length dst.old) out width result.value result.width result.reader }
 {
     let n = dst.len();
-    let last = less(n as u64, 4) as usize;
+    let last = n.saturating_sub(4);
     let end = edge(packet);
     let stop = reader.place + reader.remaining;
-    let room = less(stop, 4);
+    let room = stop.saturating_sub(4);
     let mut place = reader.place;
     let mut word = reader.cache;
     let mut level = width as i64;
@@ -593,13 +587,13 @@ fn fast(
             place = place + h.used;
         } else {
             let w = level as u64;
-            let u = step_word(word, w, moves, lengths);
+            let u = step_word(word, w);
             if over(place, u.used, 52, room) {
                 return arrived(reader, place, word, w, i);
             }
             let q = quad_word(word, w, u.used);
-            put_quad(dst, i, q);
-            level = u.level;
+            put_quad(dst, i, scale.four(q.value));
+            level = u.value;
             i += 4;
             let taken = u.used + q.used;
             word = after(packet, place, taken);
@@ -609,68 +603,7 @@ fn fast(
     let w = above(level);
     if ends(w, i, n, place, stop) {
         let q = quad_word(word, w, 4 * w);
-        put_quad(dst, i, q);
-        let next = place + 4 * w + q.used;
-        return arrived(reader, next, window(packet, next), w, i + 4);
-    }
-    arrived(reader, place, word, w, i)
-}
-
-// The same under a selector above 0.
-fn fast_scaled(
-    reader: BitReader,
-    packet: &[u8],
-    width: u64,
-    selector: u64,
-    dst: &mut [i32],
-    out: usize,
-    moves: &[i8],
-    lengths: &[u8],
-) -> Next
-    requires ready { Ready packet.now reader }
-    requires going { (reader.status ≡ 0) × (length dst.old < 2 ^ 32) × (out < length dst.old) × (width ≤ 19) × (0 < selector) × (selector < 16) }
-    requires clean { Clean dst.old out × Tables moves.now lengths.now }
-    ensures onward { Onward packet.now selector dst.old out (state_of width reader) dst.new result.out (state_of result.width result.reader) }
-    ensures done { Done packet.now (length dst.old) out width result.out result.width result.reader }
-{
-    let n = dst.len();
-    let last = less(n as u64, 4) as usize;
-    let end = edge(packet);
-    let stop = reader.place + reader.remaining;
-    let room = less(stop, 4);
-    let mut place = reader.place;
-    let mut word = reader.cache;
-    let mut level = width as i64;
-    let mut i = out;
-    while near(level, i, last, place, end) {
-        if level <= 0 {
-            let h = run_word(word, ((n - i + 3) / 4) as u64);
-            if over(place, h.used, 56, stop) {
-                return arrived(reader, place, word, 0, i);
-            }
-            i = i + 4 * (h.groups as usize);
-            level = h.width as i64;
-            word = after(packet, place, h.used);
-            place = place + h.used;
-        } else {
-            let w = level as u64;
-            let u = step_word(word, w, moves, lengths);
-            if over(place, u.used, 52, room) {
-                return arrived(reader, place, word, w, i);
-            }
-            let q = quad_word(word, w, u.used);
-            put_quad(dst, i, scaled(q, selector));
-            level = u.level;
-            i += 4;
-            let taken = u.used + q.used;
-            word = after(packet, place, taken);
-            place = place + taken;
-        }
-    }
-    let w = above(level);
-    if ends(w, i, n, place, stop) {
-        let q = quad_word(word, w, 4 * w);
-        put_quad(dst, i, scaled(q, selector));
+        put_quad(dst, i, scale.four(q.value));
         let next = place + 4 * w + q.used;
         return arrived(reader, next, window(packet, next), w, i + 4);
     }
@@ -685,19 +618,17 @@ fn quick(
     selector: u64,
     dst: &mut [i32],
     out: usize,
-    moves: &[i8],
-    lengths: &[u8],
-) -> Next
+) -> Decoded<usize>
     requires ready { Ready packet.now reader }
-    requires going { (reader.status ≡ 0) × (length dst.old < 2 ^ 32) × (out < length dst.old) × (width ≤ 19) × (selector < 16) }
-    requires clean { Clean dst.old out × Tables moves.now lengths.now }
-    ensures onward { Onward packet.now selector dst.old out (state_of width reader) dst.new result.out (state_of result.width result.reader) }
-    ensures done { Done packet.now (length dst.old) out width result.out result.width result.reader }
+    requires going { ((as_reader reader).status ≡ 0) × (length dst.old < 2 ^ 32) × (out < length dst.old) × (width ≤ 19) × (selector < 16) }
+    requires clean { Clean dst.old out }
+    ensures onward { Onward packet.now selector dst.old out (state_of width reader) dst.new result.value (state_of result.width result.reader) }
+    ensures done { Done packet.now (length dst.old) out width result.value result.width result.reader }
 {
     if selector == 0 {
-        return fast(reader, packet, width, dst, out, moves, lengths);
+        return fast(reader, packet, width, Unscaled, dst, out);
     }
-    fast_scaled(reader, packet, width, selector, dst, out, moves, lengths)
+    fast(reader, packet, width, Scaled { selector }, dst, out)
 }
 
 // One run or group as it is read. The rest of the row is 0 already.
@@ -708,28 +639,28 @@ fn plain(
     selector: u64,
     dst: &mut [i32],
     out: usize,
-) -> Next
+) -> Decoded<usize>
     requires ready { Ready packet.now reader }
-    requires going { (reader.status ≡ 0) × (length dst.old < 2 ^ 32) × (out < length dst.old) × (selector < 16) × (width ≤ 19) }
+    requires going { ((as_reader reader).status ≡ 0) × (length dst.old < 2 ^ 32) × (out < length dst.old) × (selector < 16) × (width ≤ 19) }
     requires clean { Clean dst.old out }
-    ensures onward { Onward packet.now selector dst.old out (state_of width reader) dst.new result.out (state_of result.width result.reader) }
-    ensures done { (out < result.out) × (result.out < length dst.old + 4) × Ready packet.now result.reader }
+    ensures onward { Onward packet.now selector dst.old out (state_of width reader) dst.new result.value (state_of result.width result.reader) }
+    ensures done { (out < result.value) × (result.value < length dst.old + 4) × Ready packet.now result.reader }
 {
     let left = (dst.len() - out + 3) / 4;
     if width == 0 {
         let run = zero_groups(reader, packet, left as u64);
         let after = run.reader;
-        return Next {
-            out: out + 4 * (run.groups as usize),
+        return Decoded {
+            value: out + 4 * (run.value as usize),
             width: run.width,
             reader: after,
         };
     }
     let q = group(reader, packet, width, selector, left as u64);
-    put4(dst, out, q.a, q.b, q.c, q.d);
+    put4(dst, out, q.value);
     let after = q.reader;
-    Next {
-        out: out + 4,
+    Decoded {
+        value: out + 4,
         width: q.width,
         reader: after,
     }
@@ -737,9 +668,9 @@ fn plain(
 
 // Whether the rest of a row is zero.
 fn halts(reader: BitReader, width: u64) -> bool
-    ensures { (result ≡ true → Halted (state_of width reader)) × (result ≡ false → (reader.status ≡ 0) × (width ≤ 19)) }
+    ensures { (result ≡ true → Halted (state_of width reader)) × (result ≡ false → ((as_reader reader).status ≡ 0) × (width ≤ 19)) }
 {
-    if reader.status != 0 {
+    if reader.status.stops() {
         return true;
     }
     19 < width
@@ -753,11 +684,9 @@ fn decode_row(reader: BitReader, packet: &[u8], dst: &mut [i32], selector: u64) 
     ensures dst_after { dst.new ≡ (row_of packet.now selector (length dst.old) (as_reader reader)).values }
     ensures still_ready { Ready packet.now result }
 {
-    let moves = MOVES;
-    let lengths = LENGTHS;
     let n = dst.len();
-    clear(dst);
-    let first = reader.width_opening(packet);
+    dst.fill(0);
+    let first = reader.width_update::<true>(packet, 0);
     let mut r = first.reader;
     let mut width = first.value;
     let mut out: usize = 0;
@@ -765,10 +694,10 @@ fn decode_row(reader: BitReader, packet: &[u8], dst: &mut [i32], selector: u64) 
         if halts(r, width) {
             return stop(r);
         }
-        let far = quick(r, packet, width, selector, dst, out, &moves, &lengths);
+        let far = quick(r, packet, width, selector, dst, out);
         r = far.reader;
         width = far.width;
-        out = far.out;
+        out = far.value;
         if out < n {
             if halts(r, width) {
                 return stop(r);
@@ -776,7 +705,7 @@ fn decode_row(reader: BitReader, packet: &[u8], dst: &mut [i32], selector: u64) 
             let one = plain(r, packet, width, selector, dst, out);
             r = one.reader;
             width = one.width;
-            out = one.out;
+            out = one.value;
         }
     }
     r
@@ -805,7 +734,7 @@ pub fn decode_component(
 {
     let after = decode_row(reader, packet, dst, selector);
     RowAnswer {
-        bits: less(reader.remaining, after.remaining),
+        bits: reader.remaining.saturating_sub(after.remaining),
         reader: after,
     }
 }

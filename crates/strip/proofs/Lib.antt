@@ -1,3 +1,2 @@
 pub mod Search
-pub mod Records
-pub mod Fields
+pub mod Table

@@ -1,111 +1,96 @@
--- Laws of the search for a tile: one candidate, the candidates in turn. Assumes nothing.
-use mathlib.Core.Path.{◌≡◌, refl, sym, ap, subst, ◌∙◌}
-use mathlib.Core.List.{List}
-use Rattle.std.specs.Prelude.{Option, Some, None}
-use mathlib.Core.Bool.{Bool, true, false, not, ◌&&◌}
-use Prim.Native.Nat.{ℕ, zero, suc, ◌+◌, ◌-◌, ◌/◌, ◌≤◌, ◌<◌}
-use native.Mathlib.Omega.{arith}
-use borrow.Author.Tests.{le-leb, ne_eqb}
-use lib.Dec.{leb, eqb}
-use lib.ListN.{length}
-use Rattle.format.specs.Strip.{Tile, valid_header, width, coded_height, payload, unless0, word, fits, only_if, tile_at, or_else, first_taken, listed}
-use Rattle.strip.specs.declared.LocatedTile.TheVariants as answer
-use Rattle.strip.specs.Answers.{stream, located_tile_of, answer_number, placed, located_of, HeaderSays}
-use Rattle.strip.specs.declared.Header.{Header}
-use Rattle.strip.specs.declared.StreamHeader.{StreamHeader}
-use Rattle.strip.specs.declared.StreamHeader.TheVariants.{Valid, Invalid}
+-- Laws of the search for a tile: offset 512, the candidates in turn. Assumes nothing.
+use Rattle.std.proofs.Common.{◌≡◌, ℕ, zero, suc, ◌+◌, ◌-◌, ◌*◌, ◌≤◌, ◌<◌, List, [], ◌∷◌, Option, Some, None, Bool, true, false, cond, ◌&&◌, length, drop, leb, refl, arith, sym, subst, MatchOption, IfSome, IsSomeAnd, IsTrue, option_map, option_and_then, ◌∙◌, ◌/◌}
+use native.Mathlib.Numerals.{unary_clauses}
+use borrow.Author.Tests.{le-leb}
+use lib.Dec.{eqb}
+use Rattle.format.specs.Strip.{Tile, only_if, tile_at, valid_header, payload, alone, listed, or_else, first_taken}
+use Rattle.strip.specs.declared.TileStream.{TileStream}
+use Rattle.strip.specs.Answers.{stream_tile, stream_of, located_tile_of, listed_of}
 
--- ---- one answer
+kept : (b : Bool) (t : Tile) → listed_of (listed (only_if b t)) ≡ cond b (Some (stream_of t ∷ [])) None
+kept true t = refl
+kept false t = refl
 
-pub dropped : (b : Bool) (t : Tile) → b ≡ false → answer.Nothing ≡ located_tile_of (only_if b t)
-dropped b t e = rw e refl
+-- a stream that is of the frame's size
+abbrev of_size : ℕ → ℕ → TileStream → Option (List TileStream)
+of_size w h t = cond (eqb t.width w && eqb t.height h) (Some (t ∷ [])) None
 
-module _ (s : List ℕ) (at n x y W H x' y' : ℕ) where
-  pub kept : (b : Bool) → b ≡ true → n ≡ 128 + payload s → x ≡ x' → y ≡ y' → W ≡ width s → H ≡ coded_height s
-      → answer.Tile (stream at n x y W H) ≡ located_tile_of (only_if b (tile_at s at x' y'))
-  kept b e long across down wide high = rw (e, long, across, down, wide, high) refl
+lone : (valid fitting : Bool) (t : Tile) (w h : ℕ) → listed_of (listed (only_if (valid && fitting && eqb t.width w && eqb t.height h) t))
+    ≡ option_and_then (of_size w h) (located_tile_of (only_if (valid && true && fitting) t))
+lone true true t w h = kept (eqb t.width w && eqb t.height h) t
+lone true false t w h = refl
+lone false fitting t w h = refl
 
--- the number of each answer is that of the strip that has no other
-pub number_is : (o : Option Tile) → answer_number (located_tile_of o) ≡ (located_of (listed o)).refusal
-number_is (Some t) = refl
-number_is None = refl
+-- offset 512 alone: the stream there, if it is of the frame's size
+pub alone_is : (s : List ℕ) (w h : ℕ) → listed_of (listed (alone s w h)) ≡ option_and_then (of_size w h) (located_tile_of (stream_tile s 512 0))
+unfolding alone stream_tile
+alone_is s w h =
+    let d = drop 512 s in
+    let room : length s - 512 - 128 ≡ length s - 640 = omega arith in
+    rw (room, le-leb 0 (payload d) (omega arith)) (lone (valid_header d) (leb (payload d) (length s - 640)) (tile_at d 512 0 0) w h)
 
--- a tile that is taken ends the search, nothing passes it on
-pub hit : (o rest : Option Tile) {t : _} → located_tile_of o ≡ answer.Tile t → located_tile_of (or_else o rest) ≡ answer.Tile t
-hit (Some u) rest e = e
-hit None rest e = absurd (omega (arith, ap answer_number e))
+-- ---- the candidates in turn
 
-pub miss : (o rest : Option Tile) → located_tile_of o ≡ answer.Nothing → or_else o rest ≡ rest
-miss (Some u) rest e = absurd (omega (arith, ap answer_number e))
-miss None rest e = refl
+passed : (o rest : Option Tile) → located_tile_of o ≡ None → or_else o rest ≡ rest
+passed (Some t) rest e = cc
+passed None rest e = refl
 
--- ---- the tests of a candidate
+hit : (o rest : Option Tile) (t : TileStream) → located_tile_of o ≡ Some t → located_tile_of (or_else o rest) ≡ Some t
+hit (Some u) rest t e = e
+hit None rest t e = cc
 
-above : (p : ℕ) → not (eqb p 0) ≡ leb 1 p
-above zero = refl
-above (suc p) = simp (ne_eqb (suc p) 0 (λ e. omega (arith, e)), le-leb 1 (suc p) (omega arith))
+module _ (f : ℕ → Option Tile) where
+  next : (at k : ℕ) → (at + 16) + k * 16 ≡ at + suc k * 16
+  next at k = omega arith
 
-together : (a b c d e f : Bool) → (b && c && d && e) ≡ f → (a && b && c && d && e) ≡ (a && f)
-together true b c d e f same = same
-together false b c d e f same = refl
-
-module _ (strip : List ℕ) (w h i at : ℕ) (s : List ℕ) where
-  pub fits-invalid : valid_header s ≡ false → fits strip w h i at s ≡ false
-  unfolding fits
-  fits-invalid bad = rw bad refl
-
-  -- a valid header, then the payload, then the sides and the frame
-  pub fits_by : (a b : Bool) → valid_header s ≡ true
-      → (leb 1 (payload s) && leb (payload s) (length strip - at - 128)) ≡ a
-      → placed strip w h i (width s) (coded_height s) ≡ b
-      → fits strip w h i at s ≡ (a && b)
-  unfolding fits placed
-  fits_by a b valid pa pb =
-      rw (valid, above (payload s), pa)
-      (together a (eqb (unless0 (word strip i 4) (width s)) (width s)) (eqb (unless0 (word strip i 5) (coded_height s)) (coded_height s))
-      (leb (word strip i 2 + width s) w) (leb (word strip i 3 + coded_height s) h) b pb)
-
--- what a header that was found says of the stream
-pub told : (l s : List ℕ) (r : StreamHeader) (h : Header) → l ≡ s → r ≡ Valid h → HeaderSays l r → HeaderSays s (Valid h)
-told l s r h e f k = subst (λ (x : List ℕ). HeaderSays x (Valid h)) e (subst (HeaderSays l) f k)
-
-pub told-not : (l s : List ℕ) (r : StreamHeader) → l ≡ s → r ≡ Invalid → HeaderSays l r → valid_header s ≡ false
-told-not l s r e f k = subst (λ (x : List ℕ). valid_header x ≡ false) e (subst (HeaderSays l) f k).0
-
--- ---- the candidates in turn, up to an end
-
-module _ (f : ℕ → Option Tile) (at end : ℕ) where
-  -- past the end nothing is left
-  pub search-none : end < at → first_taken f at ((end + 16 - at) / 16) ≡ None
+  -- no candidate is taken
+  pub none_taken : (at n : ℕ) → ((k : ℕ) → k < n → located_tile_of (f (at + k * 16)) ≡ None) → located_tile_of (first_taken f at n) ≡ None
   unfolding first_taken
-  search-none h =
-      let no_place : (end + 16 - at) / 16 ≡ 0 = omega arith in
-      rw no_place refl
+  none_taken at zero none = refl
+  none_taken at (suc n) none =
+      let here : located_tile_of (f at) ≡ None = simp unary_clauses at (none 0 (omega arith)) in
+      rw (passed (f at) (first_taken f (at + 16) n) here) (none_taken (at + 16) n (λ k h. rw (next at k) (none (suc k) (omega arith))))
 
-  -- up to the end, this candidate and then the next
-  pub search-on : at ≤ end → first_taken f at ((end + 16 - at) / 16) ≡ or_else (f at) (first_taken f (at + 16) ((end + 16 - (at + 16)) / 16))
+  -- the first that is taken
+  pub first_is : (at n i : ℕ) (t : TileStream) → i < n → ((k : ℕ) → k < i → located_tile_of (f (at + k * 16)) ≡ None) → located_tile_of (f (at + i * 16)) ≡ Some t
+      → located_tile_of (first_taken f at n) ≡ Some t
   unfolding first_taken
-  search-on h =
-      let more : (end + 16 - at) / 16 ≡ suc ((end + 16 - (at + 16)) / 16) = omega arith in
-      rw more refl
+  first_is at zero i t h none some = absurd (omega arith)
+  first_is at (suc n) zero t h none some = hit (f at) (first_taken f (at + 16) n) t (simp unary_clauses at some)
+  first_is at (suc n) (suc i) t h none some =
+      let here : located_tile_of (f at) ≡ None = simp unary_clauses at (none 0 (omega arith)) in
+      rw (passed (f at) (first_taken f (at + 16) n) here) (first_is (at + 16) n i t (omega arith) (λ k l. rw (next at k) (none (suc k) (omega arith))) (rw (next at i) some))
 
--- ---- offset 512 alone
+-- ---- what `find_map` found, where Q says that it passed a place on, and R what it took there
 
-module _ (strip : List ℕ) (w h : ℕ) (s : List ℕ) where
-  -- the tests of the stream s at 512
-  abbrev pub lone : Bool
-  lone = valid_header s && leb (payload s) (length strip - 640) && eqb (width s) w && eqb (coded_height s) h
+same_some : (o : Option ℕ) (v : ℕ) → option_map (λ y. y) o ≡ Some v → o ≡ Some v
+same_some (Some x) v e = e
+same_some None v e = cc
 
-  pub lone-invalid : valid_header s ≡ false → lone ≡ false
-  lone-invalid bad = rw bad refl
+module _ (f : ℕ → Option Tile) (Q : ℕ → Type 0) (R : ℕ → TileStream → Type 0) (K : Type 0) (whole : Bool) (len a n : ℕ) (at : ℕ → Option ℕ) where
+  pub found_from :
+      (r : Option TileStream)
+      → MatchOption r
+      (IsTrue whole × (K → (k : ℕ) → IfSome (at k) Q))
+      (λ y. (i : ℕ) × (i < len) × (len ≡ i + 1) × (K → IsSomeAnd (at i) (λ x. R x y) × ((k : ℕ) → k < i → IsSomeAnd (at k) Q)))
+      → K → ((x : ℕ) → Q x → located_tile_of (f x) ≡ None) → ((x : ℕ) (y : TileStream) → R x y → located_tile_of (f x) ≡ Some y)
+      → ((k : ℕ) → k < len → at k ≡ Some (a + k * 16)) → len ≤ n → (whole ≡ true → len ≡ n)
+      → r ≡ located_tile_of (first_taken f a n)
+  found_from None (all, passed) keeps no_tile tile reads short full =
+      let long : len ≡ n = full all in
+      sym (none_taken f a n (λ k h. no_tile (a + k * 16) (subst (λ o. IfSome o Q) (reads k (omega arith)) (passed keeps k))))
+  found_from (Some t) (i, below, last, first) keeps no_tile tile reads short full =
+      let (here, before) = first keeps in
+      sym (first_is f a n i t (omega arith) (λ k h. no_tile (a + k * 16) (subst (λ o. IsSomeAnd o Q) (reads k (omega arith)) (before k h))) (tile (a + i * 16) t (subst (λ o. IsSomeAnd o (λ x. R x t)) (reads i below) here)))
 
-  -- a valid header, then the payload, 0 allowed, then the sides
-  pub lone-by : (a b c : Bool) → valid_header s ≡ true
-      → (leb 0 (payload s) && leb (payload s) (length strip - 512 - 128)) ≡ a
-      → eqb (width s) w ≡ b
-      → eqb (coded_height s) h ≡ c
-      → lone ≡ (a && b && c)
-  lone-by a b c valid pa pb pc =
-      let room : length strip - 512 - 128 ≡ length strip - 640 = omega arith in
-      let fitting : leb (payload s) (length strip - 640) ≡ a = ap (leb (payload s)) (sym room) ∙ sym (ap (λ (t : Bool). t && leb (payload s) (length strip - 512 - 128)) (le-leb 0 (payload s) (omega arith))) ∙ pa in
-      rw (valid, fitting, pb, pc) refl
+-- each 16th of the numbers from a to below b
+module _ (a b len long : ℕ) (whole all : Bool) (at each : ℕ → Option ℕ) where
+  pub reads_each :
+      all ≡ whole → len ≤ long → long ≤ len * 16 → len * 16 < long + 16 → ((k : ℕ) → at k ≡ each (k * 16))
+      → long ≤ b - a → (all ≡ true → long ≡ b - a) → ((k : ℕ) → k < long → option_map (λ y. y) (each k) ≡ Some (a + k))
+      → ((k : ℕ) → k < len → at k ≡ Some (a + k * 16)) × (len ≤ (b + 15 - a) / 16) × (whole ≡ true → len ≡ (b + 15 - a) / 16)
+  reads_each same few low high place most full read = (
+    (λ k h. place k ∙ same_some (each (k * 16)) (a + k * 16) (read (k * 16) (omega arith))),
+    omega arith,
+    (λ w. omega (arith, full (same ∙ w))),
+  )

@@ -1,12 +1,14 @@
 // The stream header and the locator of tiles in a strip: document 01, 'Strip'.
 #![tactic(auto)]
 
-ghost use Rattle.std.specs.Prelude.{◌≡◌, ◌&&◌, ◌+◌, ◌^◌, ◌<◌, ◌≤◌, [], leb, eqb, length, get_or, drop};
-ghost use Rattle.format.specs.Strip.{magic, sides, marks, payload, unless0, word, entry_start, candidate, entry_tile, alone, listed, tiles_of};
-ghost use Rattle.strip.specs.Answers.{header_of, HeaderSays, stream, zero_stream, located_tile_of, answer_number, placed, located, located_of, table_tiles, stream_fields, tile_field};
+ghost use Rattle.std.specs.Prelude.{◌≡◌, ◌&&◌, ◌+◌, ◌^◌, ◌<◌, ◌≤◌, List, [], ◌∷◌, ◌++◌, MatchOption, IfSome, eqb, length, take, get_or, slice_get};
+ghost use Rattle.format.specs.Strip.{valid_header, magic, sides, marks, payload, unless0, word, entry_start, candidate, entry_tile, alone, listed, tiles_of};
+ghost use Rattle.strip.specs.Answers.{header_of, HeaderSays, stream_tile, located_tile_of, placed, listed_of, located_of, table_tiles, stream_fields, tile_field};
 
-use fields::{coded_height, group_size, half_height, width};
-use words::{field, le32, least};
+use fields::Stream;
+use refusals::Refusal;
+use std::marker::Model;
+use words::le32;
 
 // The most tiles that a strip's table lists.
 pub const TILES: usize = 16;
@@ -17,7 +19,7 @@ const STEP: usize = 16;
 const REACH: usize = 4096;
 
 // A tile stream inside the strip.
-#[derive(Clone, Copy)]
+#[derive(Clone, Copy, Default)]
 pub struct TileStream {
     pub offset: usize,
     pub length: usize,
@@ -37,50 +39,19 @@ impl TileStream {
     // Where a tile's stream starts in the strip, unless the table says where.
     pub const OFFSET: usize = 512;
 
-    // A tile record.
-    fn new(offset: usize, length: usize, x: usize, y: usize, width: usize, height: usize) -> Self
-        ensures { result ≡ stream offset length x y width height }
-    {
-        Self {
-            offset,
-            length,
-            x,
-            y,
-            width,
-            height,
-        }
-    }
-
-    // The record with every field 0.
-    fn none() -> Self
-        ensures { result ≡ zero_stream }
-    {
-        Self {
-            offset: 0,
-            length: 0,
-            x: 0,
-            y: 0,
-            width: 0,
-            height: 0,
-        }
-    }
-
     // Field 0 to 5 in their order; any other is 0.
     pub fn field(self, field: usize) -> usize
         ensures { result ≡ get_or (stream_fields self) field 0 }
     {
-        if 6 <= field {
-            return 0;
+        match field {
+            0 => self.offset,
+            1 => self.length,
+            2 => self.x,
+            3 => self.y,
+            4 => self.width,
+            5 => self.height,
+            _ => 0,
         }
-        let fields = [
-            self.offset,
-            self.length,
-            self.x,
-            self.y,
-            self.width,
-            self.height,
-        ];
-        fields[field]
     }
 }
 
@@ -91,128 +62,163 @@ pub struct Header {
     pub height: usize,
 }
 
-// What a stream starts with: a valid header, or refusal 2.
-#[derive(Clone, Copy)]
-pub enum StreamHeader {
-    Valid(Header),
-    Invalid,
+// What a stream starts with: its header's 128 bytes, and what comes after them.
+#[derive(Drop)]
+struct Start<'a> {
+    stream: Stream<'a>,
+    ghost long: { 128 ≤ length stream },
 }
 
-// What one position, or one entry, gives.
-#[derive(Clone, Copy)]
-enum LocatedTile {
-    Tile(TileStream),
-    Nothing,
-}
+impl<'a> Start<'a> {
+    // The start of a stream that is long enough.
+    fn of(bytes: &'a [u8]) -> Option<Self>
+        ensures { MatchOption result (length bytes.now < 128) (λ t. t.stream ≡ bytes.now) }
+    {
+        if bytes.len() < TileStream::HEADER {
+            return None;
+        }
+        let stream = Stream::new(bytes);
+        Some(Self { stream })
+    }
 
-// What a strip gives: its tiles in order, the places after them all zero.
-#[derive(Clone, Copy)]
-pub struct Located {
-    pub refusal: u32,
-    pub count: usize,
-    pub tiles: [TileStream; TILES],
-}
+    // "A000" or "0000".
+    #[tactic(auto, unfolding(format::specs::Strip::magic))]
+    fn is_magic(&self) -> bool
+        ensures { result ≡ magic self.now.stream }
+    {
+        let first = self.stream.bits(0, 32);
+        first == 0x4130_3030 || first == 0x3030_3030
+    }
 
-// "A000" or "0000".
-fn is_magic(stream: &[u8]) -> bool
-    requires { 128 ≤ length stream.now }
-    ensures { result ≡ magic stream.now }
-{
-    let first = field(stream, 0, 32);
-    if first == 0x4130_3030 {
-        return true;
+    // The width nonzero and a multiple of 16, the half height nonzero.
+    #[tactic(auto, unfolding(format::specs::Strip::sides))]
+    fn has_sides(&self) -> bool
+        ensures { result ≡ sides self.now.stream }
+    {
+        let w = self.stream.width();
+        w != 0 && w % 16 == 0 && self.stream.half_height() != 0
     }
-    first == 0x3030_3030
-}
 
-// The width nonzero and a multiple of 16, the half height nonzero.
-fn has_sides(stream: &[u8]) -> bool
-    requires { 128 ≤ length stream.now }
-    ensures { result ≡ sides stream.now }
-{
-    let w = width(stream);
-    let half = half_height(stream);
-    if w == 0 {
-        return false;
+    // The fixed bits at 12 and 14.
+    #[tactic(auto, unfolding(format::specs::Strip::marks))]
+    fn has_marks(&self) -> bool
+        ensures { result ≡ marks self.now.stream }
+    {
+        let middle = self.stream.bits(96, 16) / 16 % 64;
+        let at14 = self.stream.bits(112, 16);
+        let top = at14 / 8192;
+        let both = at14 / 1024 % 4;
+        middle == 16 && top == 3 && both == 3
     }
-    if w % 16 != 0 {
-        return false;
-    }
-    half != 0
-}
 
-// The fixed bits at 12 and 14.
-fn has_marks(stream: &[u8]) -> bool
-    requires { 128 ≤ length stream.now }
-    ensures { result ≡ marks stream.now }
-{
-    let middle = field(stream, 96, 16) / 16 % 64;
-    let at14 = field(stream, 112, 16);
-    let top = at14 / 8192;
-    let both = at14 / 1024 % 4;
-    if middle != 16 {
-        return false;
+    // The coded size, if the header is valid.
+    #[tactic(auto, unfolding(format::specs::Strip::valid_header, crate::specs::Answers::header_of))]
+    fn header(&self) -> Result<Header, Refusal>
+        ensures value { result ≡ header_of self.now.stream }
+        ensures header_says { HeaderSays self.now.stream result }
+    {
+        if self.is_magic() && self.has_sides() && self.has_marks() {
+            return Ok(Header {
+                width: self.stream.width(),
+                height: self.stream.coded_height(),
+            });
+        }
+        Err(Refusal::InvalidHeader)
     }
-    if top != 3 {
-        return false;
+
+    // The bytes after the header.
+    #[tactic(auto, unfolding(format::specs::Strip::payload))]
+    fn payload(&self) -> usize
+        ensures { (result ≡ payload self.now.stream) × (result < 2 ^ 31) }
+    {
+        self.stream.group_size(0)
+            + self.stream.group_size(1)
+            + self.stream.group_size(2)
+            + self.stream.group_size(3)
+            + self.stream.group_size(4)
     }
-    both == 3
 }
 
 // The coded size, if the stream starts with a valid header.
-pub fn parse_stream_header(stream: &[u8]) -> StreamHeader
+#[tactic(auto, unfolding(format::specs::Strip::valid_header, crate::specs::Answers::header_of))]
+pub fn parse_stream_header(stream: &[u8]) -> Result<Header, Refusal>
     ensures value { result ≡ header_of stream.now }
     ensures header_says { HeaderSays stream.now result }
 {
-    if stream.len() < TileStream::HEADER {
-        return StreamHeader::Invalid;
+    match Start::of(stream) {
+        Some(start) => start.header(),
+        None => Err(Refusal::InvalidHeader),
     }
-    if !is_magic(stream) {
-        return StreamHeader::Invalid;
-    }
-    if !has_sides(stream) {
-        return StreamHeader::Invalid;
-    }
-    if !has_marks(stream) {
-        return StreamHeader::Invalid;
-    }
-    StreamHeader::Valid(Header {
-        width: width(stream),
-        height: coded_height(stream),
-    })
 }
 
-// The header and the payload.
-fn stream_length(stream: &[u8]) -> usize
-    requires { 128 ≤ length stream.now }
-    ensures { (result ≡ 128 + payload stream.now) × (result < 2 ^ 31) }
-{
-    TileStream::HEADER
-        + group_size(stream, 0)
-        + group_size(stream, 1)
-        + group_size(stream, 2)
-        + group_size(stream, 3)
-        + group_size(stream, 4)
+// The tiles of a strip in order, at most TILES: in an array, since the decoder has no heap.
+#[derive(Drop)]
+pub struct Tiles {
+    tiles: [TileStream; TILES],
+    count: usize,
 }
 
-// Word k of entry i of the table.
-fn entry_word(strip: &[u8], i: usize, k: usize) -> usize
-    requires { (640 ≤ length strip.now) × (i < 16) × (k < 6) }
-    ensures { (result ≡ word strip.now i k) × (result < 2 ^ 32) }
-{
-    le32(strip, 8 + 24 * i + 4 * k)
+impl Model for Tiles {
+    ghost use Rattle.std.specs.Prelude.{◌≤◌, List, take};
+    ghost use Rattle.strip.specs.declared.TileStream.{TileStream};
+
+    ghost Value = { List TileStream };
+
+    ghost view = { λ t. take t.count t.tiles };
+
+    ghost invariant = { λ t. t.count ≤ 16 };
 }
 
-// Where the search for entry i starts; 0 means 512.
-fn entry_start(strip: &[u8], i: usize) -> usize
-    requires { (640 ≤ length strip.now) × (i < 16) }
-    ensures { (result ≡ entry_start strip.now i) × (result < 2 ^ 32) }
-{
-    let start = entry_word(strip, i, 0);
-    if start == 0 {
-        TileStream::OFFSET
-    } else {
-        start
+impl Tiles {
+    // No tile.
+    fn new() -> Self
+        ensures { result ≡ [] }
+    {
+        Self {
+            tiles: [TileStream::default(); TILES],
+            count: 0,
+        }
+    }
+
+    // One tile.
+    fn one(tile: TileStream) -> Self
+        ensures { result ≡ tile ∷ [] }
+    {
+        let mut tiles = Self::new();
+        tiles.push(tile);
+        tiles
+    }
+
+    // One tile more.
+    fn push(&mut self, tile: TileStream)
+        requires { length self.old < 16 }
+        ensures { self.new ≡ self.old ++ tile ∷ [] }
+    {
+        self.tiles[self.count] = tile;
+        self.count += 1;
+    }
+
+    // The tiles in order.
+    pub fn as_slice(&self) -> &[TileStream]
+        ensures value { result.now ≡ self.now }
+        ensures most { length self.now ≤ 16 }
+    {
+        &self.tiles[..self.count]
+    }
+
+    // How many there are.
+    pub fn len(&self) -> usize
+        ensures value { result ≡ length self.now }
+        ensures most { result ≤ 16 }
+    {
+        self.as_slice().len()
+    }
+
+    // Tile k from 0.
+    pub fn get(&self, k: usize) -> Option<TileStream>
+        ensures { result ≡ slice_get self.now k }
+    {
+        self.as_slice().get(k).copied()
     }
 }
 
@@ -220,217 +226,169 @@ fn entry_start(strip: &[u8], i: usize) -> usize
 fn matches_side(listed: usize, side: usize) -> bool
     ensures { result ≡ eqb (unless0 listed side) side }
 {
-    if listed == 0 {
-        return true;
-    }
-    listed == side
+    listed == 0 || listed == side
 }
 
-// A payload of so many bytes at least lies within the room that is left.
-fn holds_payload(room: usize, payload: usize, minimum: usize) -> bool
-    ensures { result ≡ (leb minimum payload && leb payload room) }
-{
-    if payload < minimum {
-        return false;
-    }
-    payload <= room
+// A strip of 640 bytes at least, and the sides of the frame that its tiles cover.
+#[derive(Clone, Copy)]
+struct Frame<'a> {
+    strip: &'a [u8],
+    width: usize,
+    height: usize,
+    ghost long: { 640 ≤ length strip.now },
 }
 
-// The stream from a byte of the strip on.
-fn stream_at(strip: &[u8], at: usize) -> &[u8]
-    requires { at ≤ length strip.now }
-    ensures { result.now ≡ drop at strip.now }
-{
-    &strip[at..]
-}
-
-// The sides of entry i match the header's, and the tile lies inside the frame.
-fn fits_frame(strip: &[u8], full_w: usize, full_h: usize, i: usize, h: Header) -> bool
-    requires { (640 ≤ length strip.now) × (i < 16) × (h.width < 2 ^ 32) × (h.height < 2 ^ 32) }
-    ensures { result ≡ placed strip.now full_w full_h i h.width h.height }
-{
-    let width = h.width;
-    let height = h.height;
-    let x = entry_word(strip, i, 2);
-    let y = entry_word(strip, i, 3);
-    if !matches_side(entry_word(strip, i, 4), width) {
-        return false;
-    }
-    if !matches_side(entry_word(strip, i, 5), height) {
-        return false;
-    }
-    if full_w < x + width {
-        return false;
-    }
-    if full_h < y + height {
-        return false;
-    }
-    true
-}
-
-// Examine one header position for entry i.
-fn examine(strip: &[u8], full_w: usize, full_h: usize, i: usize, at: usize) -> LocatedTile
-    requires { (640 ≤ length strip.now) × (i < 16) × (at + 128 ≤ length strip.now) }
-    ensures { result ≡ located_tile_of (candidate strip.now full_w full_h i at) }
-{
-    let stream = stream_at(strip, at);
-    let StreamHeader::Valid(h) = parse_stream_header(stream) else {
-        return LocatedTile::Nothing;
-    };
-    let length = stream_length(stream);
-    let room = strip.len() - at - TileStream::HEADER;
-    let payload = length - TileStream::HEADER;
-    if !holds_payload(room, payload, 1) {
-        return LocatedTile::Nothing;
-    }
-    if !fits_frame(strip, full_w, full_h, i, h) {
-        return LocatedTile::Nothing;
-    }
-    let x = entry_word(strip, i, 2);
-    let y = entry_word(strip, i, 3);
-    LocatedTile::Tile(TileStream::new(at, length, x, y, h.width, h.height))
-}
-
-// The tile of entry i: the first of its candidates that is taken.
-fn find_entry(strip: &[u8], full_w: usize, full_h: usize, i: usize) -> LocatedTile
-    requires { (640 ≤ length strip.now) × (i < 16) }
-    ensures { result ≡ located_tile_of (entry_tile strip.now full_w full_h i) }
-{
-    let start = entry_start(strip, i);
-    let last = strip.len() - TileStream::HEADER;
-    let end = least((start + REACH) as u64, last as u64) as usize;
-    let mut at = start;
-    while at <= end {
-        let found = examine(strip, full_w, full_h, i, at);
-        let LocatedTile::Nothing = found else {
-            return found;
-        };
-        at += STEP;
-    }
-    LocatedTile::Nothing
-}
-
-// Offset 512 tried alone.
-fn find_alone(strip: &[u8], full_w: usize, full_h: usize) -> LocatedTile
-    requires { 640 ≤ length strip.now }
-    ensures value { result ≡ located_tile_of (alone strip.now full_w full_h) }
-    ensures refusal { answer_number result ≡ (located_of (listed (alone strip.now full_w full_h))).refusal }
-{
-    let stream = stream_at(strip, TileStream::OFFSET);
-    let StreamHeader::Valid(h) = parse_stream_header(stream) else {
-        return LocatedTile::Nothing;
-    };
-    let length = stream_length(stream);
-    let room = strip.len() - TileStream::OFFSET - TileStream::HEADER;
-    let payload = length - TileStream::HEADER;
-    if !holds_payload(room, payload, 0) {
-        return LocatedTile::Nothing;
-    }
-    if h.width != full_w {
-        return LocatedTile::Nothing;
-    }
-    if h.height != full_h {
-        return LocatedTile::Nothing;
-    }
-    LocatedTile::Tile(TileStream::new(TileStream::OFFSET, length, 0, 0, full_w, full_h))
-}
-
-impl Located {
-    // So many tiles; none is refusal 1.
-    fn new(count: usize, tiles: [TileStream; TILES]) -> Self
-        ensures { result ≡ located count tiles }
+impl<'a> Frame<'a> {
+    // Word k of entry i of the table.
+    fn entry_word(&self, i: usize, k: usize) -> usize
+        requires { (i < 16) × (k < 6) }
+        ensures { (result ≡ word self.now.strip.now i k) × (result < 2 ^ 32) }
     {
-        if count == 0 {
-            return Self {
-                refusal: 1,
-                count,
-                tiles,
-            };
-        }
-        Self {
-            refusal: 0,
-            count,
-            tiles,
+        le32(self.strip, 8 + 24 * i + 4 * k)
+    }
+
+    // Where the search for entry i starts; 0 means 512.
+    #[tactic(auto, unfolding(format::specs::Strip::entry_start))]
+    fn entry_start(&self, i: usize) -> usize
+        requires { i < 16 }
+        ensures { (result ≡ entry_start self.now.strip.now i) × (result < 2 ^ 32) }
+    {
+        let start = self.entry_word(i, 0);
+        if start == 0 {
+            TileStream::OFFSET
+        } else {
+            start
         }
     }
 
-    // No tile located: refusal 1 with every other field 0.
-    fn refused() -> Self
-        ensures { result ≡ located_of [] }
+    // The stream at a byte, if its header is valid and a payload of so many bytes at least lies within the strip.
+    #[tactic(auto, unfolding(crate::specs::Answers::stream_tile, format::specs::Strip::valid_header))]
+    fn stream_at(&self, at: usize, least: usize) -> Option<TileStream>
+        ensures value { result ≡ located_tile_of (stream_tile self.now.strip.now at least) }
+        ensures upper_bound { IfSome result (λ t. (t.width < 2 ^ 16) × (t.height < 2 ^ 17)) }
     {
-        let none = TileStream::none();
-        Self::new(0, [none; TILES])
+        let stream = self.strip.get(at..)?;
+        let start = Start::of(stream)?;
+        let header = start.header().ok()?;
+        let payload = start.payload();
+        let room = stream.len() - TileStream::HEADER;
+        if payload < least || room < payload {
+            return None;
+        }
+        Some(TileStream {
+            offset: at,
+            length: TileStream::HEADER + payload,
+            x: 0,
+            y: 0,
+            width: header.width,
+            height: header.height,
+        })
     }
-}
 
-// The tiles of the table; one failed entry drops all.
-fn find_table(strip: &[u8], full_w: usize, full_h: usize) -> Located
-    requires { 640 ≤ length strip.now }
-    ensures { result ≡ located_of (table_tiles strip.now full_w full_h) }
-{
-    let count = le32(strip, 0);
-    if count == 0 {
-        return Located::refused();
+    // The sides of entry i match the header's, and the tile lies inside the frame.
+    #[tactic(auto, unfolding(crate::specs::Answers::placed))]
+    fn places(&self, i: usize, width: usize, height: usize) -> bool
+        requires { (i < 16) × (width < 2 ^ 32) × (height < 2 ^ 32) }
+        ensures { result ≡ placed self.now.strip.now self.now.width self.now.height i width height }
+    {
+        matches_side(self.entry_word(i, 4), width)
+            && matches_side(self.entry_word(i, 5), height)
+            && self.entry_word(i, 2) + width <= self.width
+            && self.entry_word(i, 3) + height <= self.height
     }
-    if TILES < count {
-        return Located::refused();
+
+    // The tile of entry i at one position.
+    #[tactic(auto, unfolding(format::specs::Strip::candidate, format::specs::Strip::fits, crate::specs::Answers::stream_tile, crate::specs::Answers::placed))]
+    fn candidate(&self, i: usize, at: usize) -> Option<TileStream>
+        requires { i < 16 }
+        ensures { result ≡ located_tile_of (candidate self.now.strip.now self.now.width self.now.height i at) }
+    {
+        let tile = self.stream_at(at, 1)?;
+        if !self.places(i, tile.width, tile.height) {
+            return None;
+        }
+        Some(TileStream {
+            x: self.entry_word(i, 2),
+            y: self.entry_word(i, 3),
+            ..tile
+        })
     }
-    let none = TileStream::none();
-    let empty = [none; TILES];
-    let mut tiles = empty;
-    let mut i = 0;
-    while i < count {
-        let LocatedTile::Tile(tile) = find_entry(strip, full_w, full_h, i) else {
-            return Located::new(0, empty);
-        };
-        tiles[i] = tile;
-        i += 1;
+
+    // The tile of entry i: the first of its candidates that is taken.
+    fn entry_tile(&self, i: usize) -> Option<TileStream>
+        requires { i < 16 }
+        ensures { result ≡ located_tile_of (entry_tile self.now.strip.now self.now.width self.now.height i) }
+    {
+        let start = self.entry_start(i);
+        let end = (start + REACH).min(self.strip.len() - TileStream::HEADER);
+        (start..=end)
+            .step_by(STEP)
+            .find_map(|at| self.candidate(i, at))
     }
-    Located::new(count, tiles)
+
+    // The tiles of the table; one failed entry drops all.
+    #[tactic(auto, unfolding(crate::specs::Answers::table_tiles, format::specs::Strip::entry_tiles))]
+    fn table_tiles(&self) -> Option<Tiles>
+        ensures { result ≡ listed_of (table_tiles self.now.strip.now self.now.width self.now.height) }
+    {
+        let count = le32(self.strip, 0);
+        if count == 0 || TILES < count {
+            return None;
+        }
+        let mut tiles = Tiles::new();
+        for i in 0..count {
+            let tile = self.entry_tile(i)?;
+            tiles.push(tile);
+        }
+        Some(tiles)
+    }
+
+    // Offset 512 tried alone.
+    #[tactic(auto, using(crate::proofs::Search::alone_is))]
+    fn alone(&self) -> Option<Tiles>
+        ensures { result ≡ listed_of (listed (alone self.now.strip.now self.now.width self.now.height)) }
+    {
+        let tile = self.stream_at(TileStream::OFFSET, 0)?;
+        if tile.width != self.width || tile.height != self.height {
+            return None;
+        }
+        Some(Tiles::one(tile))
+    }
 }
 
 // Locate the tile streams of a strip that covers a frame of full_w by full_h.
-pub fn find_streams(strip: &[u8], full_w: usize, full_h: usize) -> Located
+#[tactic(auto, using(crate::proofs::Table::found_is), unfolding(format::specs::Strip::tiles_of))]
+pub fn find_streams(strip: &[u8], full_w: usize, full_h: usize) -> Result<Tiles, Refusal>
     ensures { result ≡ located_of (tiles_of strip.now full_w full_h) }
 {
-    if full_w == 0 {
-        return Located::refused();
+    if full_w == 0 || full_h == 0 || strip.len() < TileStream::OFFSET + TileStream::HEADER {
+        return Err(Refusal::NoTile);
     }
-    if full_h == 0 {
-        return Located::refused();
-    }
-    if strip.len() < TileStream::OFFSET + TileStream::HEADER {
-        return Located::refused();
-    }
-    let table = find_table(strip, full_w, full_h);
-    if table.refusal == 0 {
-        return table;
-    }
-    let LocatedTile::Tile(tile) = find_alone(strip, full_w, full_h) else {
-        return Located::refused();
+    let frame = Frame {
+        strip,
+        width: full_w,
+        height: full_h,
     };
-    let none = TileStream::none();
-    let mut tiles = [none; TILES];
-    tiles[0] = tile;
-    Located::new(1, tiles)
+    match frame.table_tiles() {
+        Some(tiles) => Ok(tiles),
+        None => frame.alone().ok_or(Refusal::NoTile),
+    }
 }
 
 // How many tiles a strip has.
 pub fn tile_count(strip: &[u8], full_w: usize, full_h: usize) -> usize
     ensures { result ≡ length (tiles_of strip.now full_w full_h) }
 {
-    let located = find_streams(strip, full_w, full_h);
-    located.count
+    find_streams(strip, full_w, full_h).map_or(0, |tiles| tiles.len())
 }
 
 // Field 0 to 5 of a tile from 0; one that isn't there gives 0.
+#[tactic(auto, using(crate::proofs::Table::field_is))]
 pub fn tile_field(strip: &[u8], full_w: usize, full_h: usize, ordinal: usize, field: usize) -> usize
     ensures { result ≡ tile_field (tiles_of strip.now full_w full_h) ordinal field }
 {
-    if TILES <= ordinal {
-        return 0;
+    match find_streams(strip, full_w, full_h) {
+        Ok(tiles) => tiles.get(ordinal).map_or(0, |tile| tile.field(field)),
+        Err(_) => 0,
     }
-    let located = find_streams(strip, full_w, full_h);
-    let tile = located.tiles[ordinal];
-    tile.field(field)
 }

@@ -2,12 +2,12 @@
 use mathlib.Core.Path.{◌≡◌, sym, ap, ◌∙◌}
 use mathlib.Core.Bool.{Bool}
 use mathlib.Core.List.{List, ◌++◌}
-use Prim.Native.Nat.{ℕ, ◌+◌, ◌-◌, ◌*◌, ◌/◌, ◌≤◌}
+use Prim.Native.Nat.{ℕ, ◌+◌, ◌*◌, ◌/◌, ◌^◌, ◌<◌, ◌≤◌}
+use Rattle.std.proofs.Common.{Ok}
 use native.Mathlib.Nat.{mul-le-mul_right}
 use native.Mathlib.Omega.{arith}
 use lib.IntN.{ℤ, pos}
-use lib.ListN.{length, take, drop, length-replicate}
-use lib.Seq.{length-take-le}
+use lib.ListN.{drop, length-replicate}
 use Rattle.format.specs.Sizes.{Colour, green, red, stripes, guarded, plane_rows, plane_rows_of, plane_columns, work_length}
 use Rattle.format.specs.Strip.{width, coded_height}
 use Rattle.format.specs.Coefficients.{zeros, coefs}
@@ -17,6 +17,11 @@ use Rattle.format.proofs.Theorems.{length-planes}
 use Rattle.passes.specs.declared.Plan.{Plan}
 use Rattle.passes.specs.Plan.{unit_of, work_units, Sized, Fits}
 use Rattle.passes.proofs.SizedLaws.{sized_of, work-units}
+use Rattle.format.specs.Tile as tile
+use Rattle.format.specs.Tile.{lengths_of}
+use Rattle.packets.specs.declared.Lengths.{Lengths}
+use Rattle.packets.specs.Answers.{told as needs}
+use Rattle.packets.proofs.LengthLaws.{needed_is}
 use Rattle.tile.specs.Packets.{Measured}
 use Rattle.tile.specs.Going.{decoded_plane}
 use Rattle.tile.specs.Decode.{onto}
@@ -30,8 +35,6 @@ pub row-units : (z : Plan) → Fits z 0 → z.w ≤ 16 * unit_of z
 row-units z f = let m = mul-le-mul_right (z.w / 16) f.1.some in omega (arith, m, f.0.whole)
 
 -- ---- the lent slices
-pub first_part : (l : List ℤ) (a n : ℕ) → a ≤ length l → a ≡ n → length (take (a - 0) l) ≡ n
-first_part l a n h e = let z : a - 0 ≡ a = omega arith in ap (λ (k : ℕ). length (take k l)) z ∙ length-take-le a l h ∙ e
 
 -- an accepted stream, its coded size w by h, and what is reckoned from that, with lent slices so long
 pub record Lent (s : List ℕ) (green_n red_n blue_n work_n w h n : ℕ) (g : Bool) (full half all : ℕ) : Type 0 where
@@ -40,32 +43,42 @@ pub record Lent (s : List ℕ) (green_n red_n blue_n work_n w h n : ℕ) (g : Bo
   pub tall : h ≡ coded_height s
   pub many : n ≡ stripes h
   pub guard : g ≡ guarded h
-  pub fulls : full ≡ plane_rows_of h * plane_columns w green
-  pub halves : half ≡ plane_rows_of h * plane_columns w red
-  pub alls : all ≡ work_length w h
+  pub full_is : full ≡ plane_rows_of (coded_height s) * plane_columns (width s) green
+  pub half_is : half ≡ plane_rows_of (coded_height s) * plane_columns (width s) red
+  pub work_is : all ≡ work_length (width s) (coded_height s)
+
+-- by what the check says that the stream needs
+module _ (s : List ℕ) (need : Lengths) (is : needs (Ok need) ≡ lengths_of s) where
+  pub low_height : {green_n red_n blue_n work_n : ℕ} → Accepted s green_n red_n blue_n work_n → need.height < 2 ^ 17
+  low_height ok = omega (arith, ap (λ (x : tile.Lengths). x.height) (needed_is s need is), ok.good.low)
+
+  pub enough : {green_n red_n blue_n work_n : ℕ} → Accepted s green_n red_n blue_n work_n → (need.green ≤ green_n) × (need.red ≤ red_n) × (need.blue ≤ blue_n) × (need.work ≤ work_n)
+  enough ok =
+      let e = needed_is s need is in (
+        omega (arith, ap (λ (x : tile.Lengths). x.green) e, ok.greens),
+        omega (arith, ap (λ (x : tile.Lengths). x.red) e, ok.reds),
+        omega (arith, ap (λ (x : tile.Lengths). x.blue) e, ok.blues),
+        omega (arith, ap (λ (x : tile.Lengths). x.work) e, ok.works),
+      )
+
+  pub blue-as-red : need.blue ≡ need.red
+  blue-as-red = ap (λ (x : tile.Lengths). x.blue) (needed_is s need is) ∙ sym (ap (λ (x : tile.Lengths). x.red) (needed_is s need is))
+
+  pub lent_of : {green_n red_n blue_n work_n : ℕ} → Accepted s green_n red_n blue_n work_n → (n : ℕ) (g : Bool) → n ≡ stripes need.height → g ≡ guarded need.height
+      → Lent s green_n red_n blue_n work_n need.width need.height n g need.green need.red need.work
+  lent_of ok n g many guard =
+      let e = needed_is s need is in record {
+        ok = ok;
+        wide = ap (λ (x : tile.Lengths). x.width) e;
+        tall = ap (λ (x : tile.Lengths). x.height) e;
+        many = many;
+        guard = guard;
+        full_is = ap (λ (x : tile.Lengths). x.green) e;
+        half_is = ap (λ (x : tile.Lengths). x.red) e;
+        work_is = ap (λ (x : tile.Lengths). x.work) e;
+      }
 
 module _ {s : List ℕ} {green_n red_n blue_n work_n w h n : ℕ} {g : Bool} {full half all : ℕ} (l : Lent s green_n red_n blue_n work_n w h n g full half all) where
-  pub full_is : full ≡ plane_rows_of (coded_height s) * plane_columns (width s) green
-  full_is = l.fulls ∙ (λ j. plane_rows_of (l.tall j) * plane_columns (l.wide j) green)
-
-  pub half_is : half ≡ plane_rows_of (coded_height s) * plane_columns (width s) red
-  half_is = l.halves ∙ (λ j. plane_rows_of (l.tall j) * plane_columns (l.wide j) red)
-
-  pub work-is : all ≡ work_length (width s) (coded_height s)
-  work-is = l.alls ∙ (λ j. work_length (l.wide j) (l.tall j))
-
-  pub full-room : full ≤ green_n
-  full-room = omega (arith, full_is, l.ok.greens)
-
-  pub red-room : half ≤ red_n
-  red-room = omega (arith, half_is, l.ok.reds)
-
-  pub blue-room : half ≤ blue_n
-  blue-room = omega (arith, half_is, l.ok.blues)
-
-  pub work-room : all ≤ work_n
-  work-room = omega (arith, work-is, l.ok.works)
-
   -- the plan of the tile, with as many slots as records
   abbrev pub plan : Plan
   plan = record { w = w; n = n; guarded = g; slots = n + 1 }
@@ -84,16 +97,16 @@ module _ {s : List ℕ} {green_n red_n blue_n work_n w h n : ℕ} {g : Bool} {fu
 
   -- the slices by the plan
   pub full-rows : full ≡ plane_rows g n * w
-  full-rows = l.fulls ∙ (λ j. plane_rows (sym l.guard j) (sym l.many j) * w)
+  full-rows = l.full_is ∙ (λ j. plane_rows (sym measured.guard j) (sym measured.tall j) * sym l.wide j)
 
   pub half-rows : half ≡ plane_rows g n * (w / 2)
-  half-rows = l.halves ∙ (λ j. plane_rows (sym l.guard j) (sym l.many j) * (w / 2))
+  half-rows = l.half_is ∙ (λ j. plane_rows (sym measured.guard j) (sym measured.tall j) * (sym l.wide j / 2))
 
   pub work-in-units : all ≡ work_units * unit_of plan
   work-in-units =
       let a = sym l.wide in
       let b = sym measured.tall in
-      work-is ∙ work-units (width s) (coded_height s) l.ok.good.whole ∙ (λ j. work_units * ((b j + 1) * (a j / 16)))
+      l.work_is ∙ work-units (width s) (coded_height s) l.ok.good.whole ∙ (λ j. work_units * ((b j + 1) * (a j / 16)))
 
   -- what each slice is after the call: the part that was lent, and the rest
   module _ (i : Colour) (old given : List ℤ) (size : ℕ) where

@@ -12,12 +12,11 @@ use Rattle.format.specs.Coefficients.{coefs}
 use Rattle.format.specs.Synthesis.{planes}
 use Rattle.format.specs.Ordinary.{OrdinarySelectors, filtered_planes}
 use Rattle.format.proofs.Ordinary.{planes-are-whole, none-leaves, planes-are-filtered, planes-are-small}
-use Rattle.format.specs.Tile.{slice}
 use Rattle.tile.specs.Decode.{TileOutcome, planes_left}
-use Rattle.tile.specs.declared.Decoded.{Decoded}
+use Rattle.format.specs.Tile.{Answer, slice}
 use Rattle.tile.proofs.Lossless.{admitted, left_is, size_is}
 
-module _ (s : List ℕ) (full red blue work : List ℤ) (r : Decoded) (full' red' blue' work' : List ℤ) (o : TileOutcome s full red blue work r full' red' blue' work') (ok : r.refusal ≡ 0) (low : OrdinarySelectors s) where
+module _ (s : List ℕ) (full red blue work : List ℤ) (r : Answer) (full' red' blue' work' : List ℤ) (o : TileOutcome s full red blue work r full' red' blue' work') (ok : r.refusal ≡ 0) (low : OrdinarySelectors s) where
   a : Admitted s
   a = admitted s full red blue work r full' red' blue' work' o ok
 

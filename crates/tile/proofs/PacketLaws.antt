@@ -6,18 +6,17 @@ use native.Mathlib.Nat.{zero-add}
 use native.Mathlib.Numerals.{add-one}
 use native.Mathlib.Omega.{arith}
 use lib.IntN.{ℤ}
-use lib.ListN.{length}
 use Rattle.lists.specs.Lists.{laid}
 use Rattle.lists.proofs.Laid.{laid_same}
 use Rattle.format.specs.Coefficients.{record_values, coefs}
 use Rattle.format.specs.Counts.{group_count, broken_of, spent_of}
-use Rattle.format.specs.Used.{group_used, bits_of}
+use Rattle.format.specs.Used.{packet_in, group_used, bits_of}
 use Rattle.format.specs.Packets.{sum, packet_of, kind, blocks, payload_at}
-use Rattle.format.specs.Sizes.{Colour, index, Group, number, packet_group, packet_index, group_in, colour_in, multiplier, components, columns}
+use Rattle.format.specs.Sizes.{Colour, index, Group, number, group_in, colour_in, multiplier, components, columns}
 use Rattle.format.specs.Strip.{width}
 use Rattle.format.specs.Accepted.{Good}
 use Rattle.format.proofs.Numbered.{packets-sum, multiplier-most, columns-most}
-use Rattle.packets.proofs.TilePackets.{ok, packet-long, packet-kind}
+use Rattle.packets.proofs.TilePackets.{ok, packet-kind}
 use Rattle.packets.proofs.TilePackets as tile_packets
 use Rattle.passes.specs.declared.Plan.{Plan}
 use Rattle.passes.specs.Plan.{unit_of, final_units, Fits}
@@ -26,7 +25,7 @@ use Rattle.records.specs.declared.Finish.{Finish}
 use Rattle.records.specs.declared.Held.{Held}
 use Rattle.records.specs.declared.Walked.{Walked}
 use Rattle.records.specs.Counted.{none, both, together, Few, packet_counts}
-use Rattle.records.specs.Finished.{finished_by}
+use Rattle.records.specs.Finished.{edges_end, finished_by}
 use Rattle.records.specs.Record.{walked_by, values_by}
 use Rattle.records.proofs.Packet.{together-few, few-more, packet-few, none-few, values-all, packet-counted}
 use Rattle.levels.specs.Block.{stood, record_lines, group_at}
@@ -41,24 +40,24 @@ module _ (s : List ℕ) (good : Good s) (z : Plan) (m : Measured s z) (fits : Fi
   abbrev i : Colour
   i = colour_in p
 
-  module _ (a k : ℕ) (ea : a ≡ packet_group p) (ek : k ≡ packet_index p) (q : List ℕ) (eq : q ≡ packet_of s a k) where
+  module _ (q : List ℕ) (eq : q ≡ packet_in s p) where
     own : q ≡ packet_of s (number g) (index i)
-    own = tile_packets.own s good p h a k ea ek q eq
+    own = eq ∙ tile_packets.own s good p h
 
     kinds : kind q ≡ components g
-    kinds = packet-kind s good p h a k ea ek q eq
+    kinds = ap kind eq ∙ packet-kind s good p h
 
     module _ (d : Held) (ed : d ≡ held_of z 0 g) (f : Finish) (ef : f ≡ finish_of z g i) where
       -- what its records ask
       pub records-ask : (v : Walked) → v.offset < 2 ^ 35 → v.counts ≡ none → (size : ℕ) → final_units * unit_of z ≤ size
-          → ((16 ≤ length q) × (0 + (z.n + 1) ≤ 2 ^ 16) × (v.offset < 2 ^ 35) × Few (2 ^ 59) v.counts × (f.first + f.count ≤ kind q * d.m))
+          → ((0 + (z.n + 1) ≤ 2 ^ 16) × (v.offset < 2 ^ 35) × Few (2 ^ 59) v.counts × (edges_end f ≤ kind q * d.m))
           × ((d.m ≤ 8) × (d.cols < 2 ^ 16) × (z.n + 1 ≤ d.slots) × (d.at + d.slots * (kind q * d.m * d.cols) ≤ size))
       records-ask v o n size room =
           let few : z.n ≤ 2048 = omega (arith, m.tall, good.low) in
           let narrow : columns z.w g < 2 ^ 16 = omega (arith, columns-most z.w g, m.wide, good.narrow) in
           let fit = group-room z 0 fits.0.whole g in
           rw (ed, ef, kinds) (
-            (packet-long s good p h a k ea ek q eq, omega (arith, few), o, none-few v.counts n, edges_fit z i g),
+            (omega (arith, few), o, none-few v.counts n, edges_fit z i g),
             (multiplier-most g, narrow, omega (arith, slots), omega (arith, fit, room)),
           )
 

@@ -7,7 +7,6 @@ use native.Mathlib.Nat.{mul-le-mul_right, mod-lt, div-add-mod'}
 use native.Mathlib.Omega.{arith}
 use lib.Arith.{digits_div, digits_mod}
 use lib.Dec.{eqb}
-use borrow.Author.Tests.{le-ltb}
 use lib.IntN.{ℤ, pos}
 use lib.ListN.{length, get_or}
 use mir.Syntax.{w16}
@@ -30,11 +29,12 @@ use Rattle.lifting.specs.Lift.{at, edge_row, sum_row}
 use Rattle.passes.specs.declared.Plan.{Plan}
 use Rattle.passes.specs.Plan.{line}
 use Rattle.passes.proofs.Planes.{at-line}
-use Rattle.records.specs.Finished.{edged, finished_by}
-use Rattle.records.proofs.Finished.{length-finished, finished-row, finished-sums, finished-none}
+use Rattle.records.specs.Finished.{edges_end, edged, finished_by}
+use Rattle.records.specs.declared.Finish.TheVariants.{Sums, Edges, Nothing}
+use Rattle.records.proofs.Finished.{mode_of, length-finished, finished-row, finished-sums, finished-none}
 use Rattle.levels.specs.Block.{stood, record_row, record_lines}
 use Rattle.levels.proofs.Blocks.{base-line}
-use Rattle.tile.specs.Packets.{Measured, as_is, finish_of}
+use Rattle.tile.specs.Packets.{Measured, finish_of}
 
 -- ---- the rows with E
 none : (b : Bool) → cond b false false ≡ false
@@ -49,7 +49,7 @@ first_alone : (b : Bool) → cond (cond b true b) true false ≡ b
 first_alone true = refl
 first_alone false = refl
 
-plain2 : (odd : Bool) (t n j : ℕ) → j < 6 → edged (record { sums = false; first = 2; count = 1; last = n; odd = odd }) t j ≡ as_edge false n l2 t (j / 2) (j % 2)
+plain2 : (odd : Bool) (t n j : ℕ) → j < 6 → edged (Edges (record { first = 2; count = 1; last = n; odd = odd })) t j ≡ as_edge false n l2 t (j / 2) (j % 2)
 unfolding edged as_edge
 plain2 odd t n zero b = none (ends t n)
 plain2 odd t n (suc zero) b = none (ends t n)
@@ -59,7 +59,7 @@ plain2 odd t n (suc (suc (suc (suc zero)))) b = none (ends t n)
 plain2 odd t n (suc (suc (suc (suc (suc zero))))) b = none (ends t n)
 plain2 odd t n (suc (suc (suc (suc (suc (suc j)))))) b = absurd (omega arith)
 
-plain3 : (odd : Bool) (t n j : ℕ) → j < 12 → edged (record { sums = false; first = 4; count = 2; last = n; odd = odd }) t j ≡ as_edge false n l3 t (j / 4) (j % 4)
+plain3 : (odd : Bool) (t n j : ℕ) → j < 12 → edged (Edges (record { first = 4; count = 2; last = n; odd = odd })) t j ≡ as_edge false n l3 t (j / 4) (j % 4)
 unfolding edged as_edge
 plain3 odd t n zero b = none (ends t n)
 plain3 odd t n (suc zero) b = none (ends t n)
@@ -75,7 +75,7 @@ plain3 odd t n (suc (suc (suc (suc (suc (suc (suc (suc (suc (suc zero)))))))))) 
 plain3 odd t n (suc (suc (suc (suc (suc (suc (suc (suc (suc (suc (suc zero))))))))))) b = none (ends t n)
 plain3 odd t n (suc (suc (suc (suc (suc (suc (suc (suc (suc (suc (suc (suc j)))))))))))) b = absurd (omega arith)
 
-guarded2 : (odd : Bool) (t n j : ℕ) → j < 6 → edged (record { sums = false; first = 1; count = 1; last = 0; odd = odd }) t j ≡ as_edge true n l2 t (j / 2) (j % 2)
+guarded2 : (odd : Bool) (t n j : ℕ) → j < 6 → edged (Edges (record { first = 1; count = 1; last = 0; odd = odd })) t j ≡ as_edge true n l2 t (j / 2) (j % 2)
 unfolding edged as_edge
 guarded2 odd t n zero b = none (ends t 0)
 guarded2 odd t n (suc zero) b = first_alone (eqb t 0)
@@ -85,7 +85,7 @@ guarded2 odd t n (suc (suc (suc (suc zero)))) b = none (ends t 0)
 guarded2 odd t n (suc (suc (suc (suc (suc zero))))) b = none (ends t 0)
 guarded2 odd t n (suc (suc (suc (suc (suc (suc j)))))) b = absurd (omega arith)
 
-guarded3 : (odd : Bool) (t n j : ℕ) → j < 12 → edged (record { sums = false; first = 2; count = 1; last = n; odd = odd }) t j ≡ as_edge true n l3 t (j / 4) (j % 4)
+guarded3 : (odd : Bool) (t n j : ℕ) → j < 12 → edged (Edges (record { first = 2; count = 1; last = n; odd = odd })) t j ≡ as_edge true n l3 t (j / 4) (j % 4)
 unfolding edged as_edge
 guarded3 odd t n zero b = none (ends t n)
 guarded3 odd t n (suc zero) b = none (ends t n)
@@ -101,17 +101,17 @@ guarded3 odd t n (suc (suc (suc (suc (suc (suc (suc (suc (suc (suc zero)))))))))
 guarded3 odd t n (suc (suc (suc (suc (suc (suc (suc (suc (suc (suc (suc zero))))))))))) b = none (ends t n)
 guarded3 odd t n (suc (suc (suc (suc (suc (suc (suc (suc (suc (suc (suc (suc j)))))))))))) b = absurd (omega arith)
 
-second : (g : Bool) (n t j : ℕ) → j < 6 → edged (record { sums = false; first = cond g 1 2; count = 1; last = cond g 0 n; odd = false }) t j ≡ as_edge g n l2 t (j / 2) (j % 2)
+second : (g : Bool) (n t j : ℕ) → j < 6 → edged (Edges (record { first = cond g 1 2; count = 1; last = cond g 0 n; odd = false })) t j ≡ as_edge g n l2 t (j / 2) (j % 2)
 second false n t j b = plain2 false t n j b
 second true n t j b = guarded2 false t n j b
 
-third : (odd g : Bool) (n t j : ℕ) → j < 12 → edged (record { sums = false; first = cond g 2 4; count = cond g 1 2; last = n; odd = odd }) t j ≡ as_edge g n l3 t (j / 4) (j % 4)
+third : (odd g : Bool) (n t j : ℕ) → j < 12 → edged (Edges (record { first = cond g 2 4; count = cond g 1 2; last = n; odd = odd })) t j ≡ as_edge g n l3 t (j / 4) (j % 4)
 third odd false n t j b = plain3 odd t n j b
 third odd true n t j b = guarded3 odd t n j b
 
-no_edges : (t j : ℕ) (g : Bool) (n : ℕ) → edged as_is t j ≡ as_edge g n l1 t (j / 1) (j % 1)
+no_edges : (t j : ℕ) (g : Bool) (n : ℕ) → edged Nothing t j ≡ as_edge g n l1 t (j / 1) (j % 1)
 unfolding edged as_edge
-no_edges t j g n = rw (le-ltb j 0 (omega arith)) (none (ends t 0))
+no_edges t j g n = refl
 
 -- at every level
 edges-same : (z : Plan) (l : Level) (i : Colour) (t j : ℕ) → j < 3 * multiplier (detail l) → edged (finish_of z (detail l) i) t j ≡ as_edge z.guarded z.n l t (j / multiplier (detail l)) (j % multiplier (detail l))
@@ -160,7 +160,7 @@ edge-line true odd c p r = tab-same c _ _ (λ x h. ap (edge_detail wrapping odd)
 edge-line false odd c p r = refl
 
 -- the rows with E lie in the record
-edges-in : (z : Plan) (i : Colour) (l : Level) → (finish_of z (detail l) i).first + (finish_of z (detail l) i).count ≤ 3 * multiplier (detail l)
+edges-in : (z : Plan) (i : Colour) (l : Level) → edges_end (finish_of z (detail l) i) ≤ 3 * multiplier (detail l)
 edges-in z i l1 = omega arith
 edges-in z i l2 = by z.guarded
   where
@@ -173,7 +173,7 @@ edges-in z i l3 = by z.guarded
     by true = omega arith
     by false = omega arith
 
-pub edges_fit : (z : Plan) (i : Colour) (g : Group) → (finish_of z g i).first + (finish_of z g i).count ≤ components g * multiplier g
+pub edges_fit : (z : Plan) (i : Colour) (g : Group) → edges_end (finish_of z g i) ≤ components g * multiplier g
 edges_fit z i base = omega arith
 edges_fit z i (detail l) = edges-in z i l
 edges_fit z i final = omega arith
@@ -185,12 +185,12 @@ module _ (s : List ℕ) (z : Plan) (m : Measured s z) (i : Colour) (t : ℕ) whe
   abbrev read : Group → List ℤ
   read g = record_values (packet_of s (number g) (index i)) (multiplier g) (columns z.w g) t
 
-  unsummed : (l : Level) → (finish_of z (detail l) i).sums ≡ false
-  unsummed l1 = refl
-  unsummed l2 = refl
-  unsummed l3 = refl
+  unsummed : (l : Level) → finish_of z (detail l) i ≡ Sums → ⊥
+  unsummed l1 e = cc
+  unsummed l2 e = cc
+  unsummed l3 e = cc
 
-  odd-mode : (l : Level) → (finish_of z (detail l) i).odd ≡ mode l i
+  odd-mode : (l : Level) → mode_of (finish_of z (detail l) i) ≡ mode l i
   odd-mode l1 = refl
   odd-mode l2 = refl
   odd-mode l3 = refl
@@ -203,7 +203,7 @@ module _ (s : List ℕ) (z : Plan) (m : Measured s z) (i : Colour) (t : ℕ) whe
       let k = multiplier (detail l) in
       let size = long s z m (detail l) i e t in
       let fits = mul-le-mul_right c (edges-in z i l) in
-      let room : (f.first + f.count) * c ≤ length (read (detail l)) = omega (arith, size, fits) in
+      let room : edges_end f * c ≤ length (read (detail l)) = omega (arith, size, fits) in
       by_rows s z m (detail l) i e t (finished_by f c t (read (detail l))) (stood z.guarded z.n (coefs s) (detail l) i) (length-finished f c t (read (detail l)) room ∙ size)
       (λ j b.
       let r = t * k + j % k in
@@ -220,7 +220,7 @@ module _ (s : List ℕ) (z : Plan) (m : Measured s z) (i : Colour) (t : ℕ) whe
       let c = columns z.w base in
       let l = read base in
       let size : length l ≡ c = long s z m base i e t ∙ omega arith in
-      finished-sums (finish_of z base i) c t l refl
+      finished-sums c t l
       ∙ (λ q. sum_row (size q) l)
       ∙ tab-same c _ _ (λ x b. open-sum _ _ (suc x) (λ y d. ap (cut w16) (value y (omega (arith, b, d)))))
       ∙ sym (base-line z.w (stood z.guarded z.n (coefs s) base i) t)
@@ -239,7 +239,7 @@ module _ (s : List ℕ) (z : Plan) (m : Measured s z) (i : Colour) (t : ℕ) whe
   final-stood : Kind final → finished_by (finish_of z final i) (columns z.w final) t (read final) ≡ record_lines z.w final (stood z.guarded z.n (coefs s) final i) t
   unfolding stood
   final-stood e =
-      finished-none (finish_of z final i) (columns z.w final) t (read final) refl refl
+      finished-none (columns z.w final) t (read final)
       ∙ by_rows s z m final i e t (read final) (stood z.guarded z.n (coefs s) final i) (long s z m final i e t) (λ j b. value_row s z m final i e t j b)
 
   pub finished-stood : (g : Group) → Kind g → finished_by (finish_of z g i) (columns z.w g) t (read g) ≡ record_lines z.w g (stood z.guarded z.n (coefs s) g i) t

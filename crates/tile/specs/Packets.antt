@@ -1,5 +1,5 @@
 -- The 13 packets of a tile: where their records stand in the work slice of a whole tile, how they are finished, what they count.
-use Rattle.std.specs.Prelude.{◌≡◌, true, false, cond, List, ℕ, ◌+◌, ◌*◌, ◌%◌, ℤ}
+use Rattle.std.specs.Prelude.{◌≡◌, false, cond, List, ℕ, ◌+◌, ◌*◌, ◌%◌, ℤ}
 use Rattle.lists.specs.Lists.{laid}
 use Rattle.format.specs.Coefficients.{coefs}
 use Rattle.format.specs.Counts.{group_count, broken_of, spent_of}
@@ -10,6 +10,7 @@ use Rattle.format.specs.Table.{mode}
 use Rattle.passes.specs.declared.Plan.{Plan}
 use Rattle.records.specs.declared.Counts.{Counts}
 use Rattle.records.specs.declared.Finish.{Finish}
+use Rattle.records.specs.declared.Finish.TheVariants.{Sums, Edges, Nothing}
 use Rattle.records.specs.declared.Held.{Held}
 use Rattle.levels.specs.Block.{stood, record_size, record_lines, group_at}
 
@@ -25,15 +26,12 @@ abbrev pub held_of : Plan → ℕ → Group → Held
 held_of z at m = record { m = multiplier m; cols = columns z.w m; slots = z.slots; at = group_at z at m }
 
 -- how a group's records are finished
-abbrev pub as_is : Finish
-as_is = record { sums = false; first = 0; count = 0; last = 0; odd = false }
-
 abbrev pub finish_of : Plan → Group → Colour → Finish
-finish_of z base i = record { sums = true; first = 0; count = 0; last = 0; odd = false }
-finish_of z (detail l1) i = as_is
-finish_of z (detail l2) i = record { sums = false; first = cond z.guarded 1 2; count = 1; last = cond z.guarded 0 z.n; odd = false }
-finish_of z (detail l3) i = record { sums = false; first = cond z.guarded 2 4; count = cond z.guarded 1 2; last = z.n; odd = mode l3 i }
-finish_of z final i = as_is
+finish_of z base i = Sums
+finish_of z (detail l1) i = Nothing
+finish_of z (detail l2) i = Edges (record { first = cond z.guarded 1 2; count = 1; last = cond z.guarded 0 z.n; odd = false })
+finish_of z (detail l3) i = Edges (record { first = cond z.guarded 2 4; count = cond z.guarded 1 2; last = z.n; odd = mode l3 i })
+finish_of z final i = Nothing
 
 -- the counts of a packet's records, and of the tile's
 abbrev pub group_counts : List ℕ → Group → Colour → Counts

@@ -1,22 +1,15 @@
 -- The rows of a level undone down the columns. Assumes nothing.
-use mathlib.Core.Path.{◌≡◌, refl, sym, ap, ◌∙◌}
-use mathlib.Core.List.{List}
-use mathlib.Core.Logic.{⊎_elim}
-use Prim.Native.Nat.{ℕ, ◌+◌, ◌-◌, ◌*◌, ◌≤◌, ◌<◌, min}
-use native.Mathlib.Omega.{arith}
-use borrow.Author.Tests.{eq-eqb, ne_eqb, eqb-true, eqb-false}
-use lib.Dec.{eqb}
+use Rattle.std.proofs.Common.{◌≡◌, refl, sym, ap, ◌∙◌, List, ⊎_elim, ℕ, ◌+◌, ◌-◌, ◌*◌, ◌≤◌, ◌<◌, min, arith, eq-eqb, ne_eqb, eqb-true, eqb, ℤ, pos, length}
+use borrow.Author.Tests.{eqb-false}
 use lib.Signed.{shr_z}
-use lib.IntN.{ℤ, pos}
-use lib.ListN.{length}
 use Rattle.wrap32.specs.Cut.{add_w, sub_w}
 use Rattle.wrap32.specs.Arithmetic.{wrapping}
 use Rattle.lists.proofs.Tab.{length-tab, get_or-tab, tab-same}
 use Rattle.format.specs.Lifting.{Signal, Lead, low_leads, high_leads, low_places, high_places, highs_of, lows_of, added, taken, Shape}
 use Rattle.format.proofs.LiftingLaws.{branch}
-use Rattle.lifting.specs.Lift.{at}
-use Rattle.undoing.specs.Undo.{half_back, quarter_back, less_half, less_row, plus_quarter}
-use Rattle.undoing.specs.Down.{low_at, high_at, highs_down, lows_down, lows_back}
+use Rattle.lifting.specs.Lift.{at, step_row}
+use Rattle.undoing.specs.Undo.{half_back, whole_back, quarter_back}
+use Rattle.undoing.specs.Down.{low_at, high_at, highs_done, highs_down, lows_down, lows_back}
 use Rattle.undoing.proofs.UndoLaws.{high_is}
 
 -- as many highs as lows, or one more
@@ -36,6 +29,15 @@ module _ (h m : ℕ) where
   pub high-in : (d : Lead) → Shape d h m → (y : ℕ) → y < m → high_at d y < h + m
   high-in low_leads e y b = omega arith
   high-in high_leads e y b = ⊎_elim (λ q. omega arith) (λ q. omega arith) e.1
+
+-- rows 2 y and 2 y + 1 are there; no more highs are undone than pairs are split
+pub pair-in : (d : Lead) (h m y : ℕ) → Shape d h m → y < h → 2 * y + 1 < h + m
+pair-in low_leads h m y e b = omega arith
+pair-in high_leads h m y e b = omega (arith, (as_many h m e).0)
+
+pub done-most : (d : Lead) (y : ℕ) → highs_done d y ≤ y
+done-most low_leads y = omega arith
+done-most high_leads y = omega arith
 
 pub low-high : (d : Lead) (y k : ℕ) → low_at d y ≡ high_at d k → ⊥
 low-high low_leads y k e = omega arith
@@ -57,32 +59,32 @@ pub high-place : (d : Lead) (s : Signal) (y : ℕ) → high_places d s y ≡ s (
 high-place low_leads s y = refl
 high-place high_leads s y = refl
 
--- ---- a row of each kind
+-- ---- a row of each kind, from rows i and j
 module _ (h n : ℕ) (f : ℕ → List ℤ) (y : ℕ) where
-  pub down-led : less_half n (f (2 * y + 1)) (f (2 * y)) (f (2 * min (y + 1) (h - 1))) ≡ highs_down low_leads h n f y
+  pub down-led : (j : ℕ) → j ≡ min (y + 1) (h - 1) → step_row half_back n (f (2 * y + 1)) (f (2 * y)) (f (2 * j)) ≡ highs_down low_leads h n f y
   unfolding highs_down
-  down-led = tab-same n _ _ (λ x _. sym (high_is h (λ r. at (f r) x) y))
+  down-led j e = rw e (tab-same n _ _ (λ x _. sym (high_is h (λ r. at (f r) x) y)))
 
-  pub down-first : y ≡ 0 → less_row n (f (2 * y)) (f 1) ≡ highs_down high_leads h n f y
+  pub down-first : y ≡ 0 → step_row whole_back n (f (2 * y)) (f 1) (f 1) ≡ highs_down high_leads h n f y
   unfolding highs_down highs_of added
   down-first e = rw (eq-eqb y 0 e)
 
-  pub down-last : (y ≡ 0 → ⊥) → y ≡ h → less_row n (f (2 * y)) (f (2 * (y - 1) + 1)) ≡ highs_down high_leads h n f y
+  pub down-last : (i : ℕ) → i ≡ 2 * (y - 1) + 1 → (y ≡ 0 → ⊥) → y ≡ h → step_row whole_back n (f (2 * y)) (f i) (f i) ≡ highs_down high_leads h n f y
   unfolding highs_down highs_of added
-  down-last e b = rw (ne_eqb y 0 e, eq-eqb y h b)
+  down-last i p e b = rw (p, ne_eqb y 0 e, eq-eqb y h b)
 
-  pub down-inner : (y ≡ 0 → ⊥) → (y ≡ h → ⊥) → less_half n (f (2 * y)) (f (2 * (y - 1) + 1)) (f (2 * y + 1)) ≡ highs_down high_leads h n f y
+  pub down-inner : (i : ℕ) → i ≡ 2 * (y - 1) + 1 → (y ≡ 0 → ⊥) → (y ≡ h → ⊥) → step_row half_back n (f (2 * y)) (f i) (f (2 * y + 1)) ≡ highs_down high_leads h n f y
   unfolding highs_down highs_of added half_back
-  down-inner e b = rw (ne_eqb y 0 e, ne_eqb y h b)
+  down-inner i p e b = rw (p, ne_eqb y 0 e, ne_eqb y h b)
 
 module _ (m n : ℕ) (f : ℕ → List ℤ) (y : ℕ) where
-  pub up-led : plus_quarter n (f (2 * y)) (f (2 * (y - 1) + 1)) (f (2 * y + 1)) ≡ lows_down low_leads m n f y
+  pub up-led : (i j : ℕ) → i ≡ 2 * (y - 1) + 1 → j ≡ 2 * y + 1 → step_row quarter_back n (f (2 * y)) (f i) (f j) ≡ lows_down low_leads m n f y
   unfolding lows_down taken quarter_back
-  up-led = refl
+  up-led i j p q = rw (p, q)
 
-  pub up-leading : plus_quarter n (f (2 * y + 1)) (f (2 * y)) (f (2 * min (y + 1) (m - 1))) ≡ lows_down high_leads m n f y
+  pub up-leading : (j : ℕ) → j ≡ min (y + 1) (m - 1) → step_row quarter_back n (f (2 * y + 1)) (f (2 * y)) (f (2 * j)) ≡ lows_down high_leads m n f y
   unfolding lows_down taken quarter_back
-  up-leading = refl
+  up-leading j e = rw e
 
 -- ---- rows of n, and of nothing but the rows of both bands
 pub length-highs : (d : Lead) (h n : ℕ) (f : ℕ → List ℤ) (y : ℕ) → length (highs_down d h n f y) ≡ n

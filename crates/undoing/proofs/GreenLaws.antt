@@ -1,8 +1,5 @@
 -- The details and the averages of green's rows are `d_of` and `l_of` of its plane. Assumes nothing.
-use mathlib.Core.Path.{◌≡◌, ap, ◌∙◌}
-use mathlib.Core.List.{List}
-use Prim.Native.Nat.{ℕ, ◌+◌, ◌-◌, ◌*◌, ◌<◌, min}
-use lib.IntN.{ℤ, pos}
+use Rattle.std.proofs.Common.{◌≡◌, ap, ◌∙◌, List, ℕ, ◌+◌, ◌-◌, ◌*◌, ◌<◌, min, ℤ, pos}
 use Rattle.lists.specs.Lists.{part, tab}
 use Rattle.lists.proofs.Tab.{get_or-tab, get_d_part, tab-same}
 use Rattle.format.specs.Recovery.{d_of, l_of, read_plane}

@@ -1,14 +1,6 @@
 -- A level undone in its rows is `ll_of` and `band_of` of the plane that stood there. Assumes nothing.
-use mathlib.Core.Path.{◌≡◌, refl, sym, ap, ◌∙◌}
-use mathlib.Core.Bool.{Bool}
-use mathlib.Core.List.{List, ◌++◌}
-use mathlib.Core.Logic.{inl, inr, ⊎_elim}
-use Prim.Native.Nat.{ℕ, ◌+◌, ◌-◌, ◌*◌, ◌≤◌, ◌<◌}
-use native.Mathlib.Nat.{mul-le-mul_left, mul-le-mul_right}
-use native.Mathlib.Omega.{arith}
-use lib.IntN.{ℤ, pos}
-use lib.ListN.{length, get_or-append}
-use lib.Seq.{get_or-append-add}
+use Rattle.std.proofs.Common.{◌≡◌, refl, sym, ap, ◌∙◌, List, ◌++◌, inl, inr, ⊎_elim, ℕ, ◌+◌, ◌-◌, ◌*◌, ◌≤◌, ◌<◌, mul-le-mul_left, mul-le-mul_right, arith, ℤ, pos, length, get_or-append-add}
+use lib.ListN.{get_or-append}
 use Rattle.lists.specs.Lists.{Apart, part, tab}
 use Rattle.lists.proofs.Tab.{length-tab, get_or-tab, tab-same, get_d_part, part-tab}
 use Rattle.format.specs.Lifting.{Signal, Plane, Lead, low_leads, high_leads, highs_of, lows_of, Shape}
@@ -16,8 +8,8 @@ use Rattle.format.specs.Recovery.{lo_of, hi_of, ll_of, band_of}
 use Rattle.format.proofs.LiftingLaws.{highs-same, lows-same}
 use Rattle.lifting.specs.Lift.{at}
 use Rattle.undoing.specs.Undo.{split_row}
-use Rattle.undoing.specs.declared.Columns.{Columns}
-use Rattle.undoing.specs.Down.{Within, RowsApart, lead_of, low_at, high_at, highs_down, lows_back, split_at, Ready, Staged, Undone, LevelUndone}
+use Rattle.undoing.specs.declared.Level.{Level}
+use Rattle.undoing.specs.Down.{Within, RowsApart, place, lead_of, low_at, high_at, highs_down, lows_back, split_at, Ready, Staged, Undone, LevelUndone}
 use Rattle.undoing.proofs.DownLaws.{low-in, high-in}
 
 -- ---- a row of 2 c split: its first half and its second
@@ -66,35 +58,38 @@ module _ (d : Lead) (h m n : ℕ) (e : Shape d h m) (f : ℕ → List ℤ) (x : 
   unfolding lows_back
   low-col y k = get_or-tab n _ x (pos 0) b ∙ lows-same h m d (λ r. at (f r) x) col e s y k
 
--- ---- the level: its rows of 2 c from `to` on, each t behind the one before it
-abbrev pub columns : Bool → ℕ → ℕ → ℕ → ℕ → ℕ → Columns
-columns leads h m c to t = record { start = to; step = t; n = 2 * c; h = h; m = m; leads = leads }
+-- ---- the level
+pub level-ready : {size : ℕ} (g : Level)
+    → Within g.from.start g.from.step (2 * g.c) (g.h + g.m) size × Within g.to.start g.to.step (2 * g.c) (g.h + g.m) size × RowsApart g.from.start g.from.step g.to.start g.to.step (2 * g.c) (g.h + g.m)
+    → (1 ≤ g.c) × (2 * g.c ≤ g.to.step) × (1 ≤ g.h) × Shape (lead_of g.leads) g.h g.m → Ready g size
+level-ready g (from, to, apart) (wide, behind, some, shape) =
+    let k : (g.h + g.m - 1) * 1 ≤ (g.h + g.m - 1) * g.to.step = mul-le-mul_left (g.h + g.m - 1) (omega arith) in record {
+      placed = record { within = to; behind = behind; shape = shape; some = some; few = omega (arith, to (g.h + g.m - 1) (omega arith), k) };
+      within = from;
+      apart = apart;
+    }
 
-module _ (leads : Bool) (h m c from s to t size : ℕ) (shape : Shape (lead_of leads) h m) (some : 1 ≤ h) (wide : 1 ≤ c) (behind : 2 * c ≤ t)
-    (from_in : Within from s (2 * c) (h + m) size) (to_in : Within to t (2 * c) (h + m) size) (apart : RowsApart from s to t (2 * c) (h + m)) where
-  few-rows : h + m ≤ size
-  few-rows =
-      let k : (h + m - 1) * 1 ≤ (h + m - 1) * t = mul-le-mul_left (h + m - 1) (omega arith) in
-      omega (arith, to_in (h + m - 1) (omega arith), k)
-
-  pub level-ready : Ready (columns leads h m c to t) c from s size
-  level-ready = record {
-    placed = record { within = to_in; behind = behind; shape = shape; some = some; few = few-rows };
-    halves = refl;
-    within = from_in;
-    apart = apart;
-  }
-
-module _ (leads : Bool) (h m c from s to t : ℕ) (l w : List ℤ) (ready : Ready (columns leads h m c to t) c from s (length l))
-    (staged : Staged (columns leads h m c to t) c from s l (h + m) m h w) where
+module _ (g : Level) (l w : List ℤ) (ready : Ready g (length l)) (staged : Staged g l (g.h + g.m) g.m g.h w) where
   abbrev d : Lead
-  d = lead_of leads
+  d = lead_of g.leads
 
-  abbrev g : Columns
-  g = columns leads h m c to t
+  abbrev h : ℕ
+  h = g.h
+
+  abbrev m : ℕ
+  m = g.m
+
+  abbrev c : ℕ
+  c = g.c
+
+  abbrev to : ℕ
+  to = g.to.start
+
+  abbrev t : ℕ
+  t = g.to.step
 
   abbrev split : ℕ → List ℤ
-  split = split_at c from s l
+  split = split_at g l
 
   shape : Shape d h m
   shape = ready.placed.shape
@@ -105,7 +100,7 @@ module _ (leads : Bool) (h m c from s to t : ℕ) (l w : List ℤ) (ready : Read
   low-room : (y : ℕ) → y < h → to + low_at d y * t + 2 * c ≤ length w
   low-room y b = rw staged.long (ready.placed.within (low_at d y) (low-in h m d shape y b))
 
-  module _ (out : Plane) (stands : (r : ℕ) → r < h + m → part l (from + r * s) (2 * c) ≡ tab (2 * c) (out r)) where
+  module _ (out : Plane) (stands : (r : ℕ) → r < h + m → part l (place g.from r) (2 * c) ≡ tab (2 * c) (out r)) where
     -- column x of the lows along the rows, and of the highs
     lo-col : (x : ℕ) → x < c → (r : ℕ) → r < h + m → at (split r) x ≡ lo_of d h m c out r x
     unfolding lo_of
@@ -130,7 +125,7 @@ module _ (leads : Bool) (h m c from s to t : ℕ) (l w : List ℤ) (ready : Read
       let k : r * t ≤ (h + m - 1) * t = mul-le-mul_right t (omega arith) in
       ⊎_elim (λ (u : a + n ≤ lo). inl (omega arith)) (λ (u : lo + (hi - lo) ≤ a). inr (omega arith)) z
 
-  pub level-undone : LevelUndone d h m c from s to t l w
+  pub level-undone : LevelUndone d h m c g.from.start g.from.step to t l w
   level-undone = record {
     bands = all-bands;
     beside = λ lo hi a n p q z. staged.beside a n (outside lo hi a n p q z);

@@ -1,9 +1,5 @@
 -- The places of rows that stand one after the other in a slice. Assumes nothing.
-use mathlib.Core.Path.{◌≡◌}
-use mathlib.Core.Logic.{inl, inr, ⊎_elim}
-use Prim.Native.Nat.{ℕ, suc, ◌+◌, ◌-◌, ◌*◌, ◌≤◌, ◌<◌}
-use native.Mathlib.Nat.{mul-le-mul_right}
-use native.Mathlib.Omega.{arith}
+use Rattle.std.proofs.Common.{◌≡◌, inl, inr, ⊎_elim, ℕ, suc, ◌+◌, ◌-◌, ◌*◌, ◌≤◌, ◌<◌, mul-le-mul_right, arith}
 use Rattle.lists.specs.Lists.{Apart, Clear}
 use Rattle.format.proofs.BitLaws.{le-or-lt}
 use Rattle.undoing.specs.Down.{Within, RowsApart}

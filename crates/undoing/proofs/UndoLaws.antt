@@ -1,23 +1,11 @@
 -- The laws of the rows of synthesis undone. Assumes nothing.
-use mathlib.Core.Path.{◌≡◌, refl, sym, ap, ◌∙◌}
-use mathlib.Core.Bool.{cond}
-use mathlib.Core.List.{List, ◌++◌, append_assoc}
-use mathlib.Core.Logic.{inl, inr, ⊎_elim}
-use Prim.Native.Nat.{ℕ, ◌+◌, ◌-◌, ◌*◌, ◌^◌, ◌≤◌, ◌<◌, min}
-use native.Mathlib.Omega.{arith}
-use borrow.Author.Tests.{eq-eqb, ne_eqb}
-use lib.Dec.{eqb}
-use lib.IntN.{ℤ, pos, negsuc, ◌+ℤ◌}
-use lib.ListN.{length, take, drop, set, length-append}
-use lib.Seq.{length-take-le, drop_at, drop-drop}
+use Rattle.std.proofs.Common.{◌≡◌, refl, sym, ap, ◌∙◌, cond, List, ◌++◌, append_assoc, inl, inr, ⊎_elim, ℕ, ◌+◌, ◌-◌, ◌*◌, ◌^◌, ◌≤◌, ◌<◌, min, arith, eq-eqb, ne_eqb, eqb, ℤ, pos, negsuc, ◌+ℤ◌, length, take, drop, set, length-append, length-take-le, drop_at, drop-drop, w32, SFits}
 use lib.Signed.{mag, shr_z}
-use mir.Syntax.{w32}
-use mir.Val.{SFits}
 use Rattle.wrap32.specs.Cut.{add_w, sub_w}
 use Rattle.wrap32.specs.Arithmetic.{wrapping}
-use Rattle.wrap32.proofs.Laws.{add_w-fits, sub_w-fits, shr-fits, mag-add}
+use Rattle.wrap32.proofs.Laws.{stored, add_w-fits, add_w-plain, shr-fits, mag-add}
 use Rattle.lists.specs.Lists.{Apart, tab, put_at, part}
-use Rattle.lists.proofs.Tab.{length-tab, get_or-tab, tab-same, tab-add, length-put, get_d_part}
+use Rattle.lists.proofs.Tab.{length-tab, get_or-tab, tab-same, get_d_part}
 use Rattle.lists.proofs.Put.{put-start, put_step, get_or-put-below, get_or-put-above}
 use Rattle.lists.proofs.Part.{part-put-below, part-put-out, part-put-in}
 use Rattle.format.specs.Lifting.{Signal, Plane, low_leads, highs_of, lows_of, added, taken}
@@ -26,21 +14,23 @@ use Rattle.format.specs.Recovery.{d_of, l_of}
 use Rattle.lifting.specs.Lift.{at}
 use Rattle.undoing.specs.Undo.{half_back, quarter_back, lows_from, split_row, around_at, guess_at, average_back}
 
-pub half_back-fits : (h a b : ℤ) → SFits w32 (half_back h a b)
-unfolding half_back
-half_back-fits h a b = sub_w-fits _ _
+-- for `grind`, at a sum that fits
+pub ruleset stored_sum = (stored, add_w-plain)
 
-pub quarter_back-fits : (l p c : ℤ) → SFits w32 (quarter_back l p c)
-unfolding quarter_back
-quarter_back-fits l p c = add_w-fits _ _
+-- a run of none
+pub put-none : (l : List ℤ) (a n : ℕ) (f : ℕ → ℤ) → n ≡ 0 → l ≡ put_at l a (tab n f)
+put-none l a n f e = rw e (put-start l a f)
 
--- a place apart from the run that is written
-pub read-apart : (l m : List ℤ) (a c i s n k : ℕ) (f : ℕ → ℤ) → m ≡ put_at l a (tab i f) → a + c ≤ length l → i ≤ c → Apart s n a c → k < n → at m (s + k) ≡ at l (s + k)
-read-apart l m a c i s n k f e h b p q =
-    ⊎_elim
-    (λ (t : s + n ≤ a). rw e (get_or-put-below l a (tab i f) (pos 0) (rw length-tab (omega arith)) (s + k) (omega arith)))
-    (λ (t : a + c ≤ s). rw e (get_or-put-above l a (tab i f) (pos 0) (rw length-tab (omega arith)) (s + k) (rw length-tab (omega arith))))
+-- a place of n apart from the run that is written
+pub read-apart : (l m : List ℤ) (a c i s n j k : ℕ) (f : ℕ → ℤ) → m ≡ put_at l a (tab i f) → a + c ≤ length l → i ≤ c → Apart s n a c → j ≡ s + k → k < n → at m j ≡ at (part l s n) k
+read-apart l m a c i s n j k f e h b p z q =
+    let r : a + length (tab i f) ≤ length l = rw length-tab (omega arith) in
+    ap (at m) z
+    ∙ ⊎_elim
+    (λ (t : s + n ≤ a). rw e (get_or-put-below l a (tab i f) (pos 0) r (s + k) (omega arith)))
+    (λ (t : a + c ≤ s). rw e (get_or-put-above l a (tab i f) (pos 0) r (s + k) (rw length-tab (omega arith))))
     p
+    ∙ sym (get_d_part l s n k (pos 0) q)
 
 -- the highs and lows of a row of 2 c
 pub high_is : (c : ℕ) (s : Signal) (x : ℕ) → highs_of low_leads c s x ≡ half_back (s (2 * x + 1)) (s (2 * x)) (s (2 * min (x + 1) (c - 1)))
@@ -71,9 +61,7 @@ module _ {A : Type 0} where
 module _ (l m : List ℤ) (from to c x : ℕ) (room : to + c ≤ length l) (apart : Apart from (2 * c) to c) (b : x < c)
     (e : m ≡ put_at l to (tab x (highs_of low_leads c (at (part l from (2 * c)))))) where
   row_read : (j k : ℕ) → j ≡ from + k → k < 2 * c → at m j ≡ at (part l from (2 * c)) k
-  row_read j k q h =
-      ap (at m) q ∙ read-apart l m to c x from (2 * c) k (highs_of low_leads c (at (part l from (2 * c)))) e room (omega arith) apart h
-      ∙ sym (get_d_part l from (2 * c) k (pos 0) h)
+  row_read j k = read-apart l m to c x from (2 * c) j k (highs_of low_leads c (at (part l from (2 * c)))) e room (omega arith) apart
 
   pub high-step : (n : ℕ) → n ≡ min (x + 1) (c - 1)
       → set m (to + x) (half_back (at m (from + 2 * x + 1)) (at m (from + 2 * x)) (at m (from + 2 * n))) ≡ put_at l to (tab (x + 1) (highs_of low_leads c (at (part l from (2 * c)))))
@@ -84,51 +72,22 @@ module _ (l m : List ℤ) (from to c x : ℕ) (room : to + c ≤ length l) (apar
       let k3 = row_read (from + 2 * n) (2 * min (x + 1) (c - 1)) (ap (λ (j : ℕ). from + 2 * j) q) (omega arith) in
       put_step l m to x (highs_of low_leads c (at P)) _ e (omega arith) ((λ i. half_back (k1 i) (k2 i) (k3 i)) ∙ sym (high_is c (at P) x))
 
--- ---- its lows, the first one last
-module _ (l m : List ℤ) (from high to c x : ℕ) (room : to + c ≤ length l) (apart : Apart from (2 * c) to c) (apart-high : Apart high c to c) where
+-- ---- one more of its lows, from the highs at `high`
+module _ (l : List ℤ) (from high c : ℕ) where
   -- low k
   abbrev pub low_of : ℕ → ℤ
   low_of k = quarter_back (at (part l from (2 * c)) (2 * k)) (at (part l high c) (k - 1)) (at (part l high c) k)
 
-  -- a row of none
-  pub low-none : m ≡ put_at l (to + 1) (tab x (λ k. low_of (1 + k))) → x ≡ 0 → c ≡ 0 → m ≡ put_at l to (tab c low_of)
-  low-none e p q =
-      e ∙ ap (λ (j : ℕ). put_at l (to + 1) (tab j (λ k. low_of (1 + k)))) p ∙ sym (put-start l (to + 1) (λ k. low_of (1 + k))) ∙ put-start l to low_of
-      ∙ ap (λ (j : ℕ). put_at l to (tab j low_of)) (sym q)
-
-  module _ (b : x < c) (e : m ≡ put_at l (to + 1) (tab x (λ k. low_of (1 + k)))) where
+  module _ (m : List ℤ) (to x : ℕ) (room : to + c ≤ length l) (apart : Apart from (2 * c) to c) (apart-high : Apart high c to c) (b : x < c) (e : m ≡ put_at l to (tab x low_of)) where
     low_read : (s n j k : ℕ) → Apart s n to c → j ≡ s + k → k < n → at m j ≡ at (part l s n) k
-    low_read s n j k a q h =
-        let off : Apart s n (to + 1) (c - 1) = ⊎_elim (λ (z : s + n ≤ to). inl (omega arith)) (λ (z : to + c ≤ s). inr (omega arith)) a in
-        ap (at m) q ∙ read-apart l m (to + 1) (c - 1) x s n k (λ k. low_of (1 + k)) e (omega arith) (omega arith) off h
-        ∙ sym (get_d_part l s n k (pos 0) h)
+    low_read s n j k = read-apart l m to c x s n j k low_of e room (omega arith)
 
-    pub low_step : x + 1 < c
-        → set m (to + (x + 1)) (quarter_back (at m (from + 2 * (x + 1))) (at m (high + x)) (at m (high + (x + 1)))) ≡ put_at l (to + 1) (tab (x + 1) (λ k. low_of (1 + k)))
-    low_step h =
-        let k1 = low_read from (2 * c) (from + 2 * (x + 1)) (2 * (1 + x)) apart (omega arith) (omega arith) in
-        let k2 = low_read high c (high + x) (1 + x - 1) apart-high (omega arith) (omega arith) in
-        let k3 = low_read high c (high + (x + 1)) (1 + x) apart-high (omega arith) (omega arith) in
-        let v = quarter_back (at m (from + 2 * (x + 1))) (at m (high + x)) (at m (high + (x + 1))) in
-        let n : to + (x + 1) ≡ to + 1 + x = omega arith in
-        ap (λ (j : ℕ). set m j v) n
-        ∙ put_step l m (to + 1) x (λ k. low_of (1 + k)) v e (omega arith) (λ i. quarter_back (k1 i) (k2 i) (k3 i))
-
-    pub low_first : x + 1 ≡ c → set m (to + 0) (quarter_back (at m (from + 2 * 0)) (at m (high + 0)) (at m (high + 0))) ≡ put_at l to (tab c low_of)
-    low_first h =
-        let k1 = low_read from (2 * c) (from + 2 * 0) (2 * 0) apart refl (omega arith) in
-        let k2 = low_read high c (high + 0) (0 - 1) apart-high (omega arith) (omega arith) in
-        let k3 = low_read high c (high + 0) 0 apart-high (omega arith) (omega arith) in
-        let n = length-tab x (λ k. low_of (1 + k)) in
-        let all : tab 1 low_of ++ tab x (λ k. low_of (1 + k)) ≡ tab c low_of = sym (tab-add 1 x low_of) ∙ ap (λ (j : ℕ). tab j low_of) (omega (arith, h)) in
-        let long : length m ≡ length l = ap length e ∙ length-put l (to + 1) (tab x (λ k. low_of (1 + k))) (omega (arith, n)) in
-        put_step m m to 0 low_of _ (put-start m to low_of) (omega (arith, long)) (λ i. quarter_back (k1 i) (k2 i) (k3 i))
-        ∙ ap (λ (w : List ℤ). put_at w to (tab 1 low_of)) e
-        ∙ put-before l (tab 1 low_of) (tab x (λ k. low_of (1 + k))) to 1 (length-tab 1 low_of) (omega (arith, n))
-        ∙ ap (put_at l to) all
-
-pub apart-front : (s n a c : ℕ) → Apart s n a (2 * c) → Apart s n a c
-apart-front s n a c p = ⊎_elim (λ (q : s + n ≤ a). inl q) (λ (q : a + 2 * c ≤ s). inr (omega arith)) p
+    pub low-step : (p : ℕ) → p ≡ x - 1 → set m (to + x) (quarter_back (at m (from + 2 * x)) (at m (high + p)) (at m (high + x))) ≡ put_at l to (tab (x + 1) low_of)
+    low-step p q =
+        let k1 = low_read from (2 * c) (from + 2 * x) (2 * x) apart refl (omega arith) in
+        let k2 = low_read high c (high + p) (x - 1) apart-high (ap (λ (j : ℕ). high + j) q) (omega arith) in
+        let k3 = low_read high c (high + x) x apart-high refl b in
+        put_step l m to x low_of _ e (omega arith) (λ i. quarter_back (k1 i) (k2 i) (k3 i))
 
 pub apart-back : (s n a c : ℕ) → Apart s n a (2 * c) → Apart s n (a + c) c
 apart-back s n a c p = ⊎_elim (λ (q : s + n ≤ a). inl (omega arith)) (λ (q : a + 2 * c ≤ s). inr (omega arith)) p
@@ -201,19 +160,15 @@ pub guess-is : (c : ℕ) (prev cur : List ℤ) (x : ℕ) → guess_at c prev cur
 unfolding guess_at
 guess-is c prev cur x = refl
 
-pub average_back-fits : (o g : ℤ) → SFits w32 (average_back o g)
-unfolding average_back
-average_back-fits o g = add_w-fits _ _
-
 -- one more average of a row, to its place behind `to`
-module _ (l m row : List ℤ) (to prev cur c x : ℕ) (room : to + c ≤ length l) (p : Apart prev c to c) (q : Apart cur c to c) (b : x < c) where
+module _ (l row : List ℤ) (prev cur c : ℕ) where
   -- average k
   abbrev pub average_of : ℕ → ℤ
   average_of k = average_back (at row (2 * k + 1)) (guess_at c (part l prev c) (part l cur c) k)
 
-  module _ (e : m ≡ put_at l to (tab x average_of)) where
+  module _ (m : List ℤ) (to x : ℕ) (room : to + c ≤ length l) (p : Apart prev c to c) (q : Apart cur c to c) (b : x < c) (e : m ≡ put_at l to (tab x average_of)) where
     detail-read : (s j k : ℕ) → Apart s c to c → j ≡ s + k → k < c → at m j ≡ at (part l s c) k
-    detail-read s j k a n h = ap (at m) n ∙ read-apart l m to c x s c k average_of e room (omega arith) a h ∙ sym (get_d_part l s c k (pos 0) h)
+    detail-read s j k = read-apart l m to c x s c j k average_of e room (omega arith)
 
     pub average-step : (n : ℕ) → n ≡ min (x + 1) (c - 1)
         → set m (to + x) (average_back (at row (2 * x + 1)) (quarter wrapping (at m (prev + x)) (at m (cur + x)) (at m (prev + n)) (at m (cur + n)))) ≡ put_at l to (tab (x + 1) average_of)

@@ -9,7 +9,8 @@ use Rattle.format.specs.Table.{hl, lh, hh}
 use Rattle.format.specs.Recovery.{ll_of, band_of, d_of, read_plane}
 use Rattle.lifting.specs.Lift.{at}
 use Rattle.undoing.specs.Undo.{split_row}
-use Rattle.undoing.specs.declared.Columns.{Columns}
+use Rattle.undoing.specs.declared.Level.{Level}
+use Rattle.undoing.specs.declared.Spaced.{Spaced}
 
 -- `count` rows of n, the first at `start` and each `step` behind the one before it, lie within `size` places
 abbrev pub Within : ℕ → ℕ → ℕ → ℕ → ℕ → Type 0
@@ -33,18 +34,27 @@ abbrev pub high_at : Lead → ℕ → ℕ
 high_at low_leads y = 2 * y + 1
 high_at high_leads y = 2 * y
 
--- h lows and m highs by turns stand within `size` places, and no two of them meet
-pub record Placed (g : Columns) (size : ℕ) : Type 0 where
-  pub within : Within g.start g.step g.n (g.h + g.m) size
-  pub behind : g.n ≤ g.step
+-- how many highs are undone once y pairs of rows are split
+abbrev pub highs_done : Lead → ℕ → ℕ
+highs_done low_leads y = y - 1
+highs_done high_leads y = y
+
+-- where row r stands
+abbrev pub place : Spaced → ℕ → ℕ
+place s r = s.start + r * s.step
+
+-- the rows that a level goes to stand within `size` places, and no two of them meet
+pub record Placed (g : Level) (size : ℕ) : Type 0 where
+  pub within : Within g.to.start g.to.step (2 * g.c) (g.h + g.m) size
+  pub behind : 2 * g.c ≤ g.to.step
   pub shape : Shape (lead_of g.leads) g.h g.m
   pub some : 1 ≤ g.h
   pub few : g.h + g.m ≤ size
 
-module _ (g : Columns) where
+module _ (g : Level) where
   -- the place of row r, of low y and of high y
   abbrev pub row_place : ℕ → ℕ
-  row_place r = g.start + r * g.step
+  row_place r = place g.to r
 
   abbrev pub low_place : ℕ → ℕ
   low_place y = row_place (low_at (lead_of g.leads) y)
@@ -54,7 +64,11 @@ module _ (g : Columns) where
 
   -- the rows as they stand
   abbrev pub rows_in : List ℤ → ℕ → List ℤ
-  rows_in l r = part l (row_place r) g.n
+  rows_in l r = part l (row_place r) (2 * g.c)
+
+  -- row r of those that the level comes from, split
+  abbrev pub split_at : List ℤ → ℕ → List ℤ
+  split_at l r = split_row g.c (part l (place g.from r) (2 * g.c))
 
 -- high y of n columns of the rows f, undone; and low y, where the highs are undone
 unfoldable pub highs_down : Lead → ℕ → ℕ → (ℕ → List ℤ) → ℕ → List ℤ
@@ -67,25 +81,20 @@ lows_down d m n f y = tab n (λ x. add_w (low_places d (λ r. at (f r) x) y) (ta
 unfoldable pub lows_back : Lead → ℕ → ℕ → ℕ → (ℕ → List ℤ) → ℕ → List ℤ
 lows_back d h m n f y = tab n (λ x. lows_of d h m (λ r. at (f r) x) y)
 
--- row r of 2 c of those that stand from `from` on, each s behind the one before it, split
-abbrev pub split_at : ℕ → ℕ → ℕ → List ℤ → ℕ → List ℤ
-split_at c from s l r = split_row c (part l (from + r * s) (2 * c))
-
--- the rows of g, of 2 c, and as many from `from` on, each s behind the one before it, lie within `size` places, and apart from each other
-pub record Ready (g : Columns) (c from s size : ℕ) : Type 0 where
+-- the rows that a level comes from lie within `size` places too, and apart from those that it goes to
+pub record Ready (g : Level) (size : ℕ) : Type 0 where
   pub placed : Placed g size
-  pub halves : g.n ≡ 2 * c
-  pub within : Within from s (2 * c) (g.h + g.m) size
-  pub apart : RowsApart from s g.start g.step (2 * c) (g.h + g.m)
+  pub within : Within g.from.start g.from.step (2 * g.c) (g.h + g.m) size
+  pub apart : RowsApart g.from.start g.from.step g.to.start g.to.step (2 * g.c) (g.h + g.m)
 
--- a level on its way, from l: the first k rows are split to the rows of g, the first a highs of them and b lows undone; beside the rows of g
--- nothing has changed
-pub record Staged (g : Columns) (c from s : ℕ) (l : List ℤ) (k a b : ℕ) (w : List ℤ) : Type 0 where
-  pub highs : (q : ℕ) → q < a → rows_in g w (high_at (lead_of g.leads) q) ≡ highs_down (lead_of g.leads) g.h g.n (split_at c from s l) q
-  pub lows : (q : ℕ) → q < b → rows_in g w (low_at (lead_of g.leads) q) ≡ lows_back (lead_of g.leads) g.h g.m g.n (split_at c from s l) q
-  pub split-highs : (q : ℕ) → a ≤ q → high_at (lead_of g.leads) q < k → rows_in g w (high_at (lead_of g.leads) q) ≡ split_at c from s l (high_at (lead_of g.leads) q)
-  pub split-lows : (q : ℕ) → b ≤ q → low_at (lead_of g.leads) q < k → rows_in g w (low_at (lead_of g.leads) q) ≡ split_at c from s l (low_at (lead_of g.leads) q)
-  pub beside : (e n : ℕ) → ((r : ℕ) → r < g.h + g.m → Apart e n (row_place g r) g.n) → part w e n ≡ part l e n
+-- a level on its way, from l: the first k rows are split, the first a highs of them and b lows undone; beside the rows that it goes to nothing has
+-- changed
+pub record Staged (g : Level) (l : List ℤ) (k a b : ℕ) (w : List ℤ) : Type 0 where
+  pub highs : (q : ℕ) → q < a → rows_in g w (high_at (lead_of g.leads) q) ≡ highs_down (lead_of g.leads) g.h (2 * g.c) (split_at g l) q
+  pub lows : (q : ℕ) → q < b → rows_in g w (low_at (lead_of g.leads) q) ≡ lows_back (lead_of g.leads) g.h g.m (2 * g.c) (split_at g l) q
+  pub split-highs : (q : ℕ) → a ≤ q → high_at (lead_of g.leads) q < k → rows_in g w (high_at (lead_of g.leads) q) ≡ split_at g l (high_at (lead_of g.leads) q)
+  pub split-lows : (q : ℕ) → b ≤ q → low_at (lead_of g.leads) q < k → rows_in g w (low_at (lead_of g.leads) q) ≡ split_at g l (low_at (lead_of g.leads) q)
+  pub beside : (e n : ℕ) → ((r : ℕ) → r < g.h + g.m → Apart e n (row_place g r) (2 * g.c)) → part w e n ≡ part l e n
   pub long : length w ≡ length l
 
 -- the four bands of `out` stand in the rows from `to` on, each t behind the one before it: ll and hl, c of each, in the rows of the lows, lh and hh

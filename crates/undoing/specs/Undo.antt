@@ -15,15 +15,9 @@ half_back h a b = sub_w h (shr_z (add_w a b) 2)
 unfoldable pub quarter_back : ℤ → ℤ → ℤ → ℤ
 quarter_back l p c = add_w l (shr_z (add_w (add_w p c) (pos 2)) 4)
 
--- rows of n of them; a high row with one neighbour only
-abbrev pub less_half : ℕ → List ℤ → List ℤ → List ℤ → List ℤ
-less_half n h a b = tab n (λ x. half_back (at h x) (at a x) (at b x))
-
-abbrev pub less_row : ℕ → List ℤ → List ℤ → List ℤ
-less_row n h a = tab n (λ x. sub_w (at h x) (at a x))
-
-abbrev pub plus_quarter : ℕ → List ℤ → List ℤ → List ℤ → List ℤ
-plus_quarter n l p c = tab n (λ x. quarter_back (at l x) (at p x) (at c x))
+-- a high with one neighbour only: the neighbour itself is taken off
+abbrev pub whole_back : ℤ → ℤ → ℤ → ℤ
+whole_back h a b = sub_w h a
 
 -- the lows of one row of 2 c, from its own even places and its highs
 abbrev pub lows_from : ℕ → List ℤ → List ℤ → List ℤ
@@ -40,8 +34,11 @@ around_at row next x =
     (shr_z (add_w (at row 1) (at next 1)) 2)
     (quarter wrapping (at row (2 * (x - 1) + 1)) (at next (2 * (x - 1) + 1)) (at row (2 * x + 1)) (at next (2 * x + 1)))
 
+abbrev pub detail_of : List ℤ → List ℤ → ℕ → ℤ
+detail_of row next x = sub_w (at row (2 * x)) (around_at row next x)
+
 abbrev pub details_row : ℕ → List ℤ → List ℤ → List ℤ
-details_row c row next = tab c (λ x. sub_w (at row (2 * x)) (around_at row next x))
+details_row c row next = tab c (detail_of row next)
 
 -- the averages, from row y and the details of rows y - 1 and y
 unfoldable pub guess_at : ℕ → List ℤ → List ℤ → ℕ → ℤ

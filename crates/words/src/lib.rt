@@ -1,49 +1,25 @@
-// Words and bit fields of a byte slice; the lesser and the difference of two numbers, and the first that is not 0.
+// Words and bit fields of a byte slice.
 #![tactic(auto)]
 
 ghost use Rattle.std.specs.Prelude.{◌≡◌, ◌+◌, ◌-◌, ◌/◌, ◌^◌, ◌<◌, ◌≤◌, min, length, get_or};
 ghost use Rattle.format.specs.Bits.{bits_at, little32};
-ghost use Rattle.format.specs.Refusals.{◌▷◌};
 ghost use Rattle.words.specs.Word.{word_at};
 
-// The lesser of two numbers.
-pub fn least(a: u64, b: u64) -> u64
-    ensures value { result ≡ min a b }
-    ensures upper_bound { (result ≤ a) × (result ≤ b) }
-{
-    if a <= b { a } else { b }
-}
-
-// The difference, 0 where it would be below 0.
-pub fn less(a: u64, b: u64) -> u64
-    ensures { result ≡ a - b }
-{
-    if b < a { a - b } else { 0 }
-}
-
-// The first of two numbers that is not 0: of two checks in turn, what refuses.
-pub fn first_of(a: u64, b: u64) -> u64
-    ensures { result ≡ (a ▷ b) }
-{
-    if a == 0 { b } else { a }
-}
-
-fn byte(s: &[u8], i: usize) -> u64
-    requires { i < length s.now }
-    ensures { (result ≡ get_or s.now i 0) × (result < 256) }
-{
-    s[i] as u64
-}
-
-// The eight bytes from i, the first the most significant. A balanced sum is one load of the machine.
+// The eight bytes from i, the first the most significant: one load of the machine.
 fn load(s: &[u8], i: usize) -> u64
     requires { i + 8 ≤ length s.now }
     ensures { result ≡ word_at s.now i }
 {
-    ((byte(s, i) * 0x100_0000_0000_0000 + byte(s, i + 1) * 0x1_0000_0000_0000)
-        + (byte(s, i + 2) * 0x100_0000_0000 + byte(s, i + 3) * 0x1_0000_0000))
-        + ((byte(s, i + 4) * 0x100_0000 + byte(s, i + 5) * 0x1_0000)
-            + (byte(s, i + 6) * 0x100 + byte(s, i + 7)))
+    u64::from_be_bytes([
+        s[i],
+        s[i + 1],
+        s[i + 2],
+        s[i + 3],
+        s[i + 4],
+        s[i + 5],
+        s[i + 6],
+        s[i + 7],
+    ])
 }
 
 // The bits from a place on, left aligned: the first 57 of the word are the slice's, and 0 past its end.
@@ -52,10 +28,7 @@ pub fn window(s: &[u8], place: u64) -> u64
     ensures { result / 2 ^ 7 ≡ bits_at s.now place 57 }
 {
     let last = s.len() - 8;
-    let mut i = (place / 8) as usize;
-    if last < i {
-        i = last;
-    }
+    let i = last.min((place / 8) as usize);
     let k = place - 8 * (i as u64);
     if 63 < k {
         return 0;
@@ -90,13 +63,10 @@ pub fn field(s: &[u8], at: usize, n: u64) -> usize
 }
 
 // The little-endian 32-bit word at a byte.
+#[tactic(auto, unfolding(format::specs::Bits::little32))]
 pub fn le32(s: &[u8], at: usize) -> usize
     requires { at + 4 ≤ length s.now }
     ensures { (result ≡ little32 s.now at) × (result < 2 ^ 32) }
 {
-    let a = byte(s, at);
-    let b = byte(s, at + 1);
-    let c = byte(s, at + 2);
-    let d = byte(s, at + 3);
-    (a + b * 0x100 + c * 0x1_0000 + d * 0x100_0000) as usize
+    u32::from_le_bytes([s[at], s[at + 1], s[at + 2], s[at + 3]]) as usize
 }

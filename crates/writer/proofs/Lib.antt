@@ -1,5 +1,4 @@
 -- The laws of the writer's calls.
-pub mod CallLaws
 pub mod WriteLaws
 pub mod PlaneLaws
 pub mod OutcomeLaws

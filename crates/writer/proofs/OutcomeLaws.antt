@@ -1,20 +1,22 @@
 -- The whole outcome of a call: refused before anything is changed, or by its planes. Assumes nothing.
 use mathlib.Core.Path.{◌≡◌, refl, ◌∙◌}
 use mathlib.Core.List.{List, ◌++◌}
-use Prim.Native.Nat.{ℕ, ◌-◌, ◌≤◌}
+use Prim.Native.Nat.{ℕ, ◌≤◌}
 use native.Mathlib.Omega.{arith}
 use lib.IntN.{ℤ}
-use lib.ListN.{length, take, drop}
+use lib.ListN.{length, drop}
 use borrow.Author.Tests.{eq-eqb, ne_eqb}
 use Rattle.format.specs.Coefficients.{zeros}
 use Rattle.format.specs.Sizes.{Colour, green, red, blue, work_length}
 use Rattle.format.specs.Recovery.{recover}
-use Rattle.format.specs.Writing.{call_refusal, planes_refusal, stream_length, write_refusal, written_of, work_left, stream_left}
+use Rattle.format.specs.Writing.{Written, call_refusal, planes_refusal, stream_length, write_refusal, written_of, work_left, stream_left}
 use Rattle.format.proofs.TurnLaws.{stops}
 use Rattle.format.proofs.Accepted.{lent-parts}
 use Rattle.writing.proofs.Checked.{sides}
 use Rattle.writer.specs.Write.{Fit, answer_by, stream_by, WriteOutcome}
-use Rattle.writer.specs.declared.Written.{Written}
+use Rattle.refusals.specs.declared.Refusal.{Refusal}
+use Rattle.refusals.specs.Number.{number_of}
+use Rattle.refusals.proofs.Laws.{not_zero}
 
 -- what a call that is not refused has
 pub fit : (w H green_n red_n blue_n work_n : ℕ) → call_refusal w H green_n red_n blue_n work_n ≡ 0 → Fit w H green_n red_n blue_n
@@ -31,15 +33,18 @@ module _ (w H : ℕ) (p : Colour → List ℤ) (work : List ℤ) (stream : List 
   call = call_refusal w H (length (p green)) (length (p red)) (length (p blue)) (length work)
 
   -- refused before anything is changed
-  module _ (some : call ≡ 0 → ⊥) where
+  module _ (e : Refusal) (is : number_of e ≡ call) where
+    some : call ≡ 0 → ⊥
+    some z = not_zero e (is ∙ z)
+
     same : write_refusal w H p work stream ≡ call
     unfolding write_refusal
     same = stops call _ some
 
-    pub call-refused : (r : Written) → r ≡ record { refusal = call; length = 0 } → WriteOutcome w H p work stream r work stream
+    pub call-refused : (r : Written) → r ≡ record { refusal = number_of e; length = 0 } → WriteOutcome w H p work stream r work stream
     unfolding written_of work_left stream_left
-    call-refused r e = record {
-      answer = e ∙ rw (same, ne_eqb call 0 some) refl;
+    call-refused r t = record {
+      answer = t ∙ rw (same, ne_eqb call 0 some, is) refl;
       works = rw (ne_eqb call 0 some) refl;
       streams = rw (same, ne_eqb call 0 some) refl;
     }
@@ -51,10 +56,10 @@ module _ (w H : ℕ) (p : Colour → List ℤ) (work : List ℤ) (stream : List 
     planes = rw none refl
 
     pub call-done : (r : Written) (zero : List ℤ) (m : ℕ) (after : List ℕ) → r ≡ answer_by (planes_refusal w H p (length stream)) (stream_length w H (recover w H p)) → m ≡ work_length w H → zero ≡ zeros (work_length w H)
-        → after ≡ stream_by (planes_refusal w H p (length stream)) w H (recover w H p) stream → WriteOutcome w H p work stream r (take 0 work ++ (zero ++ drop (m - 0) (drop 0 work))) after
+        → after ≡ stream_by (planes_refusal w H p (length stream)) w H (recover w H p) stream → WriteOutcome w H p work stream r (zero ++ drop m work) after
     unfolding written_of work_left stream_left
     call-done r zero m after e n z s = record {
       answer = e ∙ rw planes refl;
-      works = let k : m - 0 ≡ work_length w H = omega (arith, n) in rw (eq-eqb call 0 none) (λ i. z i ++ drop (k i) work);
+      works = rw (eq-eqb call 0 none) (λ i. z i ++ drop (n i) work);
       streams = s ∙ rw planes refl;
     }

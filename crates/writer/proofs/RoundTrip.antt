@@ -13,14 +13,12 @@ use mir.Val.{SFits}
 use Rattle.format.specs.Sizes.{Colour, green, red, blue, plane_rows_of, plane_columns, work_length}
 use Rattle.format.specs.Refusals.{short_refusal, refusal}
 use Rattle.format.specs.Coefficients.{tile_sum}
-use Rattle.format.specs.Tile.{answer_of, plane_after, slice}
+use Rattle.format.specs.Tile.{Answer, answer_of, plane_after, slice}
 use Rattle.format.specs.Recovery.{recover}
-use Rattle.format.specs.Writing.{records_bits, stream_length, written_of, write_refusal}
-use Rattle.tile.specs.declared.Decoded.{Decoded}
-use Rattle.tile.specs.Decode.{decoded_of, TileOutcome}
+use Rattle.format.specs.Writing.{Written, records_bits, stream_length, written_of, write_refusal}
+use Rattle.tile.specs.Decode.{TileOutcome}
 use Rattle.writing.proofs.Theorems.{left, written-accepted, written-width, written-height, written-sound, written-unbroken, written-unspent, written-used, written-planes, written-begins, lent-long}
 use Rattle.writing.proofs.Twice.{twice-length, twice-accepted, twice-begins}
-use Rattle.writer.specs.declared.Written.{Written}
 use Rattle.writer.specs.Write.{WriteOutcome}
 
 -- a call of `write_stream` that was accepted, with planes of 32-bit numbers
@@ -37,7 +35,7 @@ module _ (w H : ℕ) (greens reds blues work : List ℤ) (stream : List ℕ) (r 
   s = left w H p work stream fits good
 
   -- and a call of `decode_stream` on that stream, with slices that are long enough
-  module _ (g c b k : List ℤ) (d : Decoded) (g' c' b' k' : List ℤ) (enough : short_refusal w H (length g) (length c) (length b) (length k) ≡ 0) (decoded : TileOutcome stream' g c b k d g' c' b' k') where
+  module _ (g c b k : List ℤ) (d : Answer) (g' c' b' k' : List ℤ) (enough : short_refusal w H (length g) (length c) (length b) (length k) ≡ 0) (decoded : TileOutcome stream' g c b k d g' c' b' k') where
     admitted : refusal s (length g) (length c) (length b) (length k) ≡ 0
     admitted = written-accepted w H p work stream fits good (length g) (length c) (length b) (length k) enough
 
@@ -51,7 +49,7 @@ module _ (w H : ℕ) (greens reds blues work : List ℤ) (stream : List ℕ) (r 
         let unbroken = written-unbroken w H p work stream fits good in
         let unspent = written-unspent w H p work stream fits good in
         let used = written-used w H p work stream fits good in
-        decoded.answer ∙ ap (λ (t : List ℕ). decoded_of (answer_of t (refusal t (length g) (length c) (length b) (length k)))) wrote.streams
+        decoded.answer ∙ ap (λ (t : List ℕ). answer_of t (refusal t (length g) (length c) (length b) (length k))) wrote.streams
         ∙ rw (admitted, wide, tall, sound, unbroken, unspent, used) refl
 
     -- a plane after it: what was written, and the rest as it was

@@ -1,18 +1,19 @@
 -- What the contracts of `write_stream` cite, besides documents 01 and 02.
-use Rattle.std.specs.Prelude.{◌≡◌, cond, List, ◌++◌, ℕ, ◌+◌, ◌*◌, ◌%◌, ◌^◌, ◌≤◌, ◌<◌, ltb, ℤ, drop}
+use Rattle.std.specs.Prelude.{◌≡◌, cond, List, ◌++◌, ℕ, ◌+◌, ◌*◌, ◌%◌, ◌^◌, ◌≤◌, ◌<◌, ltb, ℤ, drop, Result, Ok, Err}
 use Rattle.format.specs.Coefficients.{Coefs}
 use Rattle.format.specs.Sizes.{Colour, green, red, blue, stripes, guarded, plane_rows_of, plane_columns}
 use Rattle.format.specs.Refusals.{◌▷◌, on}
 use Rattle.format.specs.Tile.{accepted}
-use Rattle.format.specs.Writing as format
-use Rattle.format.specs.Writing.{lengths_refusal, stream_length, stream_of, written_of, work_left, stream_left}
+use Rattle.format.specs.Writing.{Written, lengths_refusal, stream_length, stream_of, written_of, work_left, stream_left}
 use Rattle.passes.specs.declared.Plan.{Plan}
 use Rattle.assembly.specs.Tile.{Tile, Holds}
-use Rattle.writer.specs.declared.Written.{Written}
+use Rattle.refusals.specs.declared.Refusal.{Refusal}
+use Rattle.refusals.specs.Number.{number_of}
 
--- document 02's answer, as the code has it
-abbrev pub code_of : format.Written → Written
-code_of a = record { refusal = a.refusal; length = a.length }
+-- what an answer tells, as document 02 has it: no refusal and the stream's length, or the refusal with length 0
+abbrev pub told : Result ℕ Refusal → Written
+told (Ok n) = record { refusal = 0; length = n }
+told (Err r) = record { refusal = number_of r; length = 0 }
 
 -- the plan of a tile of coded size w, H whose slots hold all records
 abbrev pub plan_of : ℕ → ℕ → Plan
@@ -45,8 +46,8 @@ answer_by refusal long = record { refusal = refusal; length = cond (accepted ref
 abbrev pub stream_by : ℕ → ℕ → ℕ → Coefs → List ℕ → List ℕ
 stream_by refusal w H v stream = cond (accepted refusal) (stream_of w H v ++ drop (stream_length w H v) stream) stream
 
--- ---- The whole outcome of a call of `write_stream` with planes p, a work slice and a stream: the answer, and both slices after it (primed)
+-- ---- The whole outcome of a call of `write_stream` with planes p, a work slice and a stream: what is told, and both slices after it (primed)
 pub record WriteOutcome (w H : ℕ) (p : Colour → List ℤ) (work : List ℤ) (stream : List ℕ) (r : Written) (work' : List ℤ) (stream' : List ℕ) : Type 0 where
-  pub answer : r ≡ code_of (written_of w H p work stream)
+  pub answer : r ≡ written_of w H p work stream
   pub works : work' ≡ work_left w H p work stream
   pub streams : stream' ≡ stream_left w H p work stream

@@ -29,11 +29,11 @@ returns c =
       simp (
         le-ltb word (2 ^ 63) (omega (arith, e.if-word-lt9223372036854775808.false)),
         le-ltb word (2 ^ 63 + 2 ^ 62) (omega (arith, e.if-word-lt13835058055282163712.false)),
-        c.less.ensures,
-        c.least.ensures.value,
-        c.less-2.ensures,
+        c.saturating_sub.ensures,
+        c.min.ensures,
+        c.saturating_sub-2.ensures,
       ),
-      omega (arith, c.least.ensures.upper_bound, zeros (goal.at.Else-word-lt13835058055282163712 e).Start),
+      omega (arith, c.min.ensures, zeros (goal.at.Else-word-lt13835058055282163712 e).Start),
     )
 
 pub overflow_cast-z : goal.overflow_cast-z
@@ -55,4 +55,4 @@ pub overflow_add-z-2 : goal.overflow_add-z-2
 overflow_add-z-2 c = omega (arith, zeros (goal.at.overflow_add-z-2 c).Start)
 
 pub overflow_add-result-2 : goal.overflow_add-result-2
-overflow_add-result-2 c = omega (arith, c.least.ensures.upper_bound, zeros (goal.at.overflow_add-result-2 c).Start)
+overflow_add-result-2 c = omega (arith, c.min.ensures, zeros (goal.at.overflow_add-result-2 c).Start)

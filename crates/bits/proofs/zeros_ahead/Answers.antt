@@ -1,70 +1,57 @@
 -- `zeros_ahead` meets its contract. The loop's invariant: every bit that was passed is 0, and the word holds the bits after them. Assumes nothing.
-use mathlib.Core.Path.{refl, sym, ap, ◌∙◌}
-use Prim.Native.Nat.{◌-◌, ℕ, ◌+◌}
+use mathlib.Core.Path.{◌≡◌, refl, sym, ap, ◌∙◌}
+use mathlib.Core.List.{List}
+use mathlib.Core.Logic.{⊎_elim}
+use Prim.Native.Nat.{ℕ, ◌+◌, ◌≤◌, ◌<◌, min}
 use native.Mathlib.Omega.{arith}
-use native.Mathlib.Nat.{add-zero}
-use lib.Count.{count_leading_zeros, leading_le}
-use Rattle.format.specs.Bits.{bits_at}
-use Rattle.format.proofs.BitLaws.{bits_none, zero-prefix, zeros-all, zeros-found, zeros-after, zeros-join, lead-zeros, lead-none}
+use native.Mathlib.Nat.{add-zero, add_assoc}
+use lib.Count.{count_leading_zeros}
+use Rattle.format.specs.Bits.{bits_at, bit_at, zeros_at}
+use Rattle.format.proofs.BitLaws.{bits_none, le-or-lt, zero-prefix, zeros-all, zeros-found, zeros-join, lead-zeros, lead-none}
+use Rattle.bits.proofs.zeros_ahead.Goals.{After-loop-passed, Else-z-lt57}
 use Rattle.bits.proofs.zeros_ahead.Goals as goal
+
+-- z zeros and a one, in so many bits
+met : (s : List ℕ) (place z limit : ℕ) → bits_at s place z ≡ 0 → bit_at s (place + z) ≡ 1 → zeros_at s place limit ≡ min limit z
+met s place z limit none one = ⊎_elim
+    (λ (h : limit ≤ z). zeros-all s place limit (zero-prefix s place limit z none h) ∙ omega (arith, h))
+    (λ (h : z < limit). zeros-found s place z limit none one h ∙ omega (arith, h))
+    (le-or-lt limit z)
 
 pub loop-passed-init : goal.loop-passed-init
 loop-passed-init c =
     let a = c.args in
     (bits_none a.packet.now a.place, c.requires.loaded ∙ ap (λ (p : ℕ). bits_at a.packet.now p 57) (sym (add-zero a.place)), omega arith, omega arith)
 
-pub returns-then-passed-z : goal.returns-then-passed-z
-returns-then-passed-z c =
-    let a = c.args in
-    let s = a.packet.now in
-    let z = count_leading_zeros 64 c.loop-passed.word in
-    let v = c.loop-passed.passed in
-    let found = lead-zeros s (a.place + v) c.loop-passed.word z c.loop-passed.invariant.2 c.loop-passed.invariant.1 refl (omega arith) in
-    let count = zeros-after s a.place v a.limit c.loop-passed.invariant.0 (omega arith)
-    ∙ ap (λ (n : ℕ). v + n) (zeros-found s (a.place + v) z (a.limit - v) found.0 found.1 (omega arith)) in
-    (sym count, omega arith)
-
 pub returns-then-z-lt57 : goal.returns-then-z-lt57
 returns-then-z-lt57 c =
     let a = c.args in
     let s = a.packet.now in
-    let z = count_leading_zeros 64 c.loop-passed.word in
-    let v = c.loop-passed.passed in
-    let found = lead-zeros s (a.place + v) c.loop-passed.word z c.loop-passed.invariant.2 c.loop-passed.invariant.1 refl (omega arith) in
-    let none = zero-prefix s a.place a.limit (v + z) (zeros-join s a.place v z c.loop-passed.invariant.0 found.0) (omega arith) in
-    (sym (zeros-all s a.place a.limit none), omega arith)
+    let l = c.loop-passed in
+    let z = count_leading_zeros 64 l.word in
+    let found = lead-zeros s (a.place + l.passed) l.word z l.invariant.2 l.invariant.1 refl c.if-z-lt57.true in
+    let one : bit_at s (a.place + (l.passed + z)) ≡ 1 = rw (← add_assoc a.place l.passed z) found.1 in
+    (c.min.ensures ∙ sym (met s a.place (l.passed + z) a.limit (zeros-join s a.place l.passed z l.invariant.0 found.0) one), omega (arith, c.min.ensures))
+
+-- no one in the next word
+none : (c : Else-z-lt57) → bits_at c.args.packet.now c.args.place (c.loop-passed.passed + 57) ≡ 0
+none c =
+    let a = c.args in
+    let l = c.loop-passed in
+    zeros-join a.packet.now a.place l.passed 57 l.invariant.0 (lead-none a.packet.now (a.place + l.passed) l.word l.invariant.2 l.invariant.1 c.if-z-lt57.false)
 
 pub loop-passed-preserved : goal.loop-passed-preserved
 loop-passed-preserved c =
+    let e = c.window-word.ensures in
+    (none (goal.at.loop-passed-preserved c).Else-z-lt57, rw add_assoc at e, omega arith, omega arith)
+
+pub returns-else-z-lt57 : goal.returns-else-z-lt57
+returns-else-z-lt57 c =
     let a = c.args in
-    let s = a.packet.now in
-    let v = c.loop-passed.passed in
-    let none = lead-none s (a.place + v) c.loop-passed.word c.loop-passed.invariant.2 c.loop-passed.invariant.1 (omega arith) in
-    (zeros-join s a.place v 57 c.loop-passed.invariant.0 none, c.window-word.ensures, omega arith, omega arith)
+    let zeros = none (goal.at.returns-else-z-lt57 c).Else-z-lt57 in
+    (sym (zeros-all a.packet.now a.place a.limit (zero-prefix a.packet.now a.place a.limit _ zeros (omega arith))), omega arith)
 
 pub returns : goal.returns
 returns c =
     let a = c.args in
-    let none = zero-prefix a.packet.now a.place a.limit c.loop-passed.passed c.loop-passed.invariant.0 (omega arith) in
-    (sym (zeros-all a.packet.now a.place a.limit none), omega arith)
-
-pub overflow_cast-z : goal.overflow_cast-z
-overflow_cast-z c = omega (arith, leading_le 64 c.loop-passed.word)
-
-pub overflow_add-passed : goal.overflow_add-passed
-overflow_add-passed c = omega arith
-
-pub overflow_add-result : goal.overflow_add-result
-overflow_add-result c = omega arith
-
-pub overflow_add-passed-in-loop-passed : goal.overflow_add-passed-in-loop-passed
-overflow_add-passed-in-loop-passed c = omega arith
-
-pub overflow_add-place : goal.overflow_add-place
-overflow_add-place c = omega arith
-
-pub window-word-requires : goal.window-word-requires
-window-word-requires c = omega arith
-
-pub loop-passed-smaller : goal.loop-passed-smaller
-loop-passed-smaller c = omega arith
+    (sym (zeros-all a.packet.now a.place a.limit (zero-prefix a.packet.now a.place a.limit c.loop-passed.passed c.loop-passed.invariant.0 (omega arith))), omega arith)

@@ -38,6 +38,7 @@ returns-then-n-blocks c =
       le-leb _ _ c.if-m-gt8.false,
       lt-ltb _ _ c.if-cols-ge-LIMIT.false,
       lt-ltb _ _ c.if-n-ge-LIMIT.false,
+      ← c.new-header.ensures,
       ← c.blocks-2.ensures.0,
       lt-leb _ _ c.if-n-blocks.true,
     )
@@ -50,6 +51,7 @@ returns c =
       le-leb _ _ c.if-m-gt8.false,
       lt-ltb _ _ c.if-cols-ge-LIMIT.false,
       lt-ltb _ _ c.if-n-ge-LIMIT.false,
+      ← c.new-header.ensures,
       ← c.blocks-2.ensures.0,
       le-leb _ _ c.if-n-blocks.false,
       ← c.kind.ensures.0,

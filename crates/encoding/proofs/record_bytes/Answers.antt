@@ -1,22 +1,17 @@
 -- `record_bytes` meets its contract. Assumes nothing.
-use mathlib.Core.Path.{sym, ap, ◌∙◌}
-use native.Mathlib.Omega.{arith}
-use lib.ListN.{length}
-use Rattle.encoding.proofs.Records.{record-none, record-some}
+use Rattle.std.proofs.Common.{arith}
+use Rattle.encoding.proofs.Lengths.{length-record}
 use Rattle.encoding.proofs.record_bytes.Goals as goal
 
-pub returns-then-all_zero : goal.returns-then-all_zero
-returns-then-all_zero c =
+pub put_numbers-requires : goal.put_numbers-requires
+put_numbers-requires c =
     let x = c.args in
-    let z = record-none x.cols x.n x.l.now (sym c.all_zero.ensures ∙ c.if-all_zero.true) in
-    (omega (arith, ap length z), omega arith)
+    let p = c.requires in
+    (p.0, p.1, p.2, p.3, record { room = omega (arith, length-record x.cols x.n x.l.now p.0 p.2 p.3, p.1) })
 
 pub returns : goal.returns
 returns c =
     let x = c.args in
-    let z = record-some x.cols x.n x.l.now (sym c.all_zero.ensures ∙ c.if-all_zero.false) in
-    let e = c.measure_rows.ensures in
-    (omega (arith, ap length z, e.0), omega (arith, e.1, c.requires.1))
-
-pub overflow_add-result : goal.overflow_add-result
-overflow_add-result c = omega (arith, c.measure_rows.ensures.1, c.requires.1)
+    let p = c.requires in
+    let n = c.put_numbers.ensures.on in
+    (omega (arith, n, c.div_ceil.ensures), omega (arith, n, c.div_ceil.ensures, length-record x.cols x.n x.l.now p.0 p.2 p.3, p.1))

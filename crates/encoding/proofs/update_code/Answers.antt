@@ -1,46 +1,26 @@
 -- `update_code` meets its contract. Assumes nothing.
-use borrow.Author.Rules.{rules}
-use Prim.Native.Nat.{◌-◌}
-use native.Mathlib.Omega.{arith}
-use lib.Pow.{pow_pos}
-use Rattle.encoding.proofs.Pushed.{two-more, joined-lt, code-kept, code-grown, code-gone, code-shrunk}
+use Rattle.std.proofs.Common.{rules, sym, arith}
+use Rattle.encoding.proofs.Pushed.{update-kept, update-grown, update-gone, update-shrunk}
 use Rattle.encoding.proofs.update_code.Goals as goal
 
 pub returns-then-a-b : goal.returns-then-a-b
-returns-then-a-b c = record { bits = code-kept c.args.a c.args.b (search rules); size = (omega arith, omega arith) }
-
-pub joined-requires : goal.joined-requires
-joined-requires c = let s = c.args in (omega arith, omega arith, two-more (s.b - s.a) (omega arith))
+returns-then-a-b c = (rw (update-kept c.args.a c.args.b (search rules)) c.zeros.ensures.1, omega (arith, c.zeros.ensures.0))
 
 pub returns-then-a-b-2 : goal.returns-then-a-b-2
 returns-then-a-b-2 c =
-    let s = c.args in
-    let e = c.joined.ensures in
-    record {
-      bits = rw e (code-grown s.a s.b (search rules));
-      size = (omega arith, rw e (joined-lt 2 2 (s.b - s.a) 1 (omega arith) (two-more (s.b - s.a) (omega arith))));
-    }
-
-pub joined-requires-then-b-eq0 : goal.joined-requires-then-b-eq0
-joined-requires-then-b-eq0 c = let s = c.args in (omega arith, omega arith, pow_pos (s.a - 1))
+    let e = c.new.ensures in
+    (rw (c.then.ensures.1, e.0, e.1, c.unary.ensures.1) (sym (update-grown c.args.a c.args.b (search rules))), omega (arith, c.then.ensures.0, e.0, c.unary.ensures.0))
 
 pub returns-then-b-eq0 : goal.returns-then-b-eq0
 returns-then-b-eq0 c =
-    let s = c.args in
-    let e = c.joined-then-b-eq0.ensures in
-    record {
-      bits = rw e (code-gone s.a s.b (omega arith) (search rules));
-      size = (omega arith, rw e (joined-lt 3 2 (s.a - 1) 0 (omega arith) (pow_pos (s.a - 1))));
-    }
-
-pub joined-requires-2 : goal.joined-requires-2
-joined-requires-2 c = let s = c.args in (omega arith, omega arith, two-more (s.a - s.b) (omega arith))
+    let e = c.new-then-b-eq0.ensures in
+    let z = c.zeros-then-b-eq0.ensures in
+    let t = c.then-then-b-eq0.ensures in
+    (rw (t.1, e.0, e.1, z.1) (sym (update-gone c.args.a c.args.b (omega arith) (search rules))), omega (arith, t.0, e.0, z.0))
 
 pub returns : goal.returns
 returns c =
-    let s = c.args in
-    let e = c.joined-2.ensures in
-    record {
-      bits = rw e (code-shrunk s.a s.b (omega arith) (λ z. omega arith));
-      size = (omega arith, rw e (joined-lt 3 2 (s.a - s.b) 1 (omega arith) (two-more (s.a - s.b) (omega arith))));
-    }
+    let e = c.new-2.ensures in
+    let u = c.unary-2.ensures in
+    let t = c.then-2.ensures in
+    (rw (t.1, e.0, e.1, u.1) (sym (update-shrunk c.args.a c.args.b (omega arith) (λ z. omega arith))), omega (arith, t.0, e.0, u.0))

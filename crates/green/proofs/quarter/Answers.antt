@@ -1,23 +1,11 @@
 -- `green::quarter` meets its contract. Assumes nothing.
-use mir.Syntax.{w32}
-use mir.Val.{SFits}
-use mir.Facts.{to_z-of_z}
-use borrow.Author.Rules.{sfits_of}
+use Rattle.std.proofs.Common.{arith}
+use Rattle.std.proofs.lemmas.Grind.{common_steps}
+use Rattle.std.proofs.lemmas.Int.{to_z-of_z}
 use Rattle.wrap32.proofs.Laws.{shr-fits}
 use Rattle.green.specs.Green.{quarter_of}
 use Rattle.green.proofs.quarter.Goals as goal
 
 pub returns : goal.returns
 unfolding quarter_of
-returns c =
-    let fa = c.ranges.a in
-    let fb = c.ranges.b in
-    let fc = c.ranges.c in
-    let fd = c.ranges.d in
-    let f1 : SFits w32 c.wrapping_add.result = sfits_of c.wrapping_add.type_inv in
-    let f2 : SFits w32 c.wrapping_add-2.result = sfits_of c.wrapping_add-2.type_inv in
-    let f3 : SFits w32 c.wrapping_add-3.result = sfits_of c.wrapping_add-3.type_inv in
-    let e1 = simp to_z-of_z at c.wrapping_add.ensures in
-    let e2 = simp to_z-of_z at c.wrapping_add-2.ensures in
-    let e3 = simp to_z-of_z at c.wrapping_add-3.ensures in
-    simp (to_z-of_z, shr-fits) (cc)
+returns c = grind (arith, common_steps, to_z-of_z, shr-fits)

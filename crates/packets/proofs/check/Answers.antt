@@ -1,35 +1,23 @@
 -- `packets::check` meets its contract. Assumes nothing.
-use mathlib.Core.Path.{sym, ◌∙◌}
-use native.Mathlib.Omega.{arith}
-use borrow.Author.Tests.{ne_eqb}
-use Rattle.packets.specs.Answers.{checked_of}
-use Rattle.format.proofs.DirectoryLaws.{refusal-long}
+use Rattle.std.proofs.Common.{◌∙◌, sym, arith}
+use Rattle.refusals.proofs.Laws.{exits, exits_first}
+use Rattle.packets.proofs.LengthLaws.{lengths_refused, needed_long, needed_rest}
 use Rattle.packets.proofs.check.Goals as goal
 
-pub returns-then-refusal-ne0 : goal.returns-then-refusal-ne0
-unfolding checked_of
-returns-then-refusal-ne0 c = simp (← c.first_refusal-refusal.ensures, ne_eqb _ _ c.if-refusal-ne0.true)
+pub returns-in_err-need-clause-refusal : goal.returns-in_err-need-clause-refusal
+returns-in_err-need-clause-refusal c = exits _ _ c.from_residual.ensures.1 ∙ lengths_refused _ _ c.in_err-need.ensures _ _ _ _
 
-pub width-requires : goal.width-requires
-unfolding checked_of
-width-requires c =
-    let a = c.args in
-    let none = sym c.first_refusal-refusal.ensures ∙ c.if-refusal-ne0.false in
-    omega (arith, refusal-long a.stream.now a.green a.red a.blue a.work none)
+pub returns-in_err-check_lent-clause-refusal : goal.returns-in_err-check_lent-clause-refusal
+returns-in_err-check_lent-clause-refusal c =
+    exits_first _ _ c.from_residual-in_err-check_lent.ensures.1 _ _ c.in_err-check_lent.ensures ∙ sym (needed_rest _ _ c.in_ok-need.ensures _ _ _ _)
 
-pub coded_height-requires : goal.coded_height-requires
-unfolding checked_of
-coded_height-requires c =
-    let a = c.args in
-    let none = sym c.first_refusal-refusal.ensures ∙ c.if-refusal-ne0.false in
-    omega (arith, refusal-long a.stream.now a.green a.red a.blue a.work none)
+pub new-requires : goal.new-requires
+new-requires c = omega (arith, needed_long _ _ c.in_ok-need.ensures)
 
-pub returns : goal.returns
-unfolding checked_of
-returns c =
-    simp (
-      ← c.first_refusal-refusal.ensures,
-      c.if-refusal-ne0.false,
-      ← c.width.ensures.0,
-      ← c.coded_height.ensures.0,
-    )
+pub returns-in_err-check_rest-clause-refusal : goal.returns-in_err-check_rest-clause-refusal
+returns-in_err-check_rest-clause-refusal c =
+    rw (needed_rest _ _ c.in_ok-need.ensures _ _ _ _, ← c.in_ok-check_lent.ensures)
+    (exits _ _ c.from_residual-in_err-check_rest.ensures.1 ∙ (rw c.new.ensures at c.in_err-check_rest.ensures))
+
+pub returns-clause-refusal : goal.returns-clause-refusal
+returns-clause-refusal c = rw (needed_rest _ _ c.in_ok-need.ensures _ _ _ _, ← c.in_ok-check_lent.ensures) (rw c.new.ensures at c.in_ok-check_rest.ensures)

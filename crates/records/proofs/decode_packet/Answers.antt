@@ -13,8 +13,8 @@ pub next_records-r-requires : goal.next_records-r-requires
 next_records-r-requires c =
     let b = c.before_first-v.ensures in
     let p = c.requires in record {
-      in_bounds = (p.in_bounds.0, omega (arith, p.lent.0), b.1, none-few _ b.2, omega arith);
-      shape = (p.in_bounds.1, p.in_bounds.2, omega arith, omega (arith, p.lent.2));
+      in_bounds = (omega (arith, p.lent.0), b.1, none-few _ b.2, omega arith);
+      shape = (p.in_bounds.0, p.in_bounds.1, omega arith, omega (arith, p.lent.2));
     }
 
 pub returns : goal.returns
@@ -27,7 +27,7 @@ returns c =
     let q = a.packet.now in
     let e = d.next_records-r.ensures in
     let b = f.before_first-v.ensures in
-    let plain = laid_same _ _ _ _ a.band.now a.n (λ k _. refl) (λ k _. finished-none _ a.cols (0 + k) _ refl refl) in record {
+    let plain = laid_same _ _ _ _ a.band.now a.n (λ k _. refl) (λ k _. finished-none a.cols (0 + k) _) in record {
       value = ap (λ (r : Walked). r.counts) e.value ∙ packet-counted q a.m a.cols _ b.0 b.2 a.n p.lent.1;
       band_after = e.work_after ∙ plain ∙ packet-laid q a.m a.cols _ b.0 b.2 a.n a.band.now p.lent.2;
     }

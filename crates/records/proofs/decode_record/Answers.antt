@@ -1,16 +1,13 @@
 -- `decode_record` meets its contract. Assumes nothing.
 use mathlib.Core.Path.{◌≡◌, sym, ap, ◌∙◌}
-use Prim.Native.Nat.{ℕ, ◌*◌, ◌<◌, ◌≤◌, ◌^◌}
+use Prim.Native.Nat.{ℕ, ◌*◌, ◌≤◌}
 use native.Mathlib.Omega.{arith}
 use Rattle.format.specs.Reader.{Reader, start_of}
 use Rattle.format.specs.Packets.{record_length}
 use Rattle.format.specs.Coefficients.{zeros}
 use Rattle.records.proofs.Walk.{rows-le, record-none, record-coded}
-use Rattle.records.proofs.decode_record.Goals.{After-band-1, After-decode_rows, After-kind, After-new-start, After-record_length-bytes, After-shared_slice_known-1, Then-bytes-eq0}
+use Rattle.records.proofs.decode_record.Goals.{After-band-1, After-decode_rows, After-kind, After-new-start, After-record_length-bytes, Then-bytes-eq0}
 use Rattle.records.proofs.decode_record.Goals as goal
-
-index : (c : After-shared_slice_known-1) → c.args.i < 2 ^ 16
-index c = c.requires.in_bounds.1
 
 pub returns-then-bytes-eq0 : goal.returns-then-bytes-eq0
 returns-then-bytes-eq0 c =
@@ -22,7 +19,7 @@ returns-then-bytes-eq0 c =
     let empty = record-none p a.m a.cols a.i a.offset (sym t.record_length-bytes.ensures.0 ∙ t.if-bytes-eq0.true) in
     record {
       value = c.none.ensures ∙ empty.0;
-      band_after = b.clear.ensures ∙ ap zeros s.requires.shape.2 ∙ empty.1;
+      band_after = b.fill.ensures.after (λ y e. e) ∙ ap zeros s.requires.shape.2 ∙ empty.1;
     }
 
 count-le : (c : After-kind) → c.kind.result * c.args.m ≤ 3 * c.args.m
@@ -30,16 +27,16 @@ count-le c = rows-le c.kind.result c.args.m (omega (arith, c.kind.ensures.1))
 
 pub new-start-requires : goal.new-start-requires
 new-start-requires c =
-    (omega (arith, c.requires.in_bounds.0), omega (arith, c.requires.in_bounds.2), omega (arith, c.record_length-bytes.ensures.1))
+    (rw c.bytes.ensures.0 c.bytes.ensures.1, omega (arith, c.requires.in_bounds.1), omega (arith, c.record_length-bytes.ensures.1))
 
 pub decode_rows-requires : goal.decode_rows-requires
 decode_rows-requires c =
     let f = (goal.at.decode_rows-requires c).After-kind in
     let s = f in
     let a = s.args in record {
-      ready = (c.new-start.ensures.ready, ap (λ (r : Reader). r.status) c.new-start.ensures.value);
+      ready = (rw c.bytes.ensures.0 at c.new-start.ensures.ready, ap (λ (r : Reader). r.status) c.new-start.ensures.value);
       shape = (
-        omega (arith, index (goal.at.After-kind f).After-shared_slice_known-1),
+        omega (arith, s.requires.in_bounds.0),
         omega (arith, s.requires.shape.0),
         omega (arith, s.requires.shape.1),
         count-le f,
@@ -67,7 +64,7 @@ returns c =
     }
 
 pub record_length-bytes-requires : goal.record_length-bytes-requires
-record_length-bytes-requires c = (omega (arith, c.requires.in_bounds.0), omega (arith, index c))
+record_length-bytes-requires c = omega (arith, c.requires.in_bounds.0)
 
 pub overflow_mul-count : goal.overflow_mul-count
 overflow_mul-count c = omega (arith, count-le c)

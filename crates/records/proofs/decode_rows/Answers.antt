@@ -3,7 +3,8 @@ use native.Mathlib.Omega.{arith}
 use borrow.Rule.Slice.PartMut.{same_len_mid}
 use mathlib.Core.Path.{◌≡◌, refl, sym, ap, ◌∙◌}
 use mathlib.Core.List.{List, ◌++◌}
-use Prim.Native.Nat.{ℕ, suc, ◌+◌, ◌-◌, ◌/◌, ◌^◌, ◌≤◌, ◌<◌, min}
+use Prim.Native.Nat.{ℕ, suc, ◌+◌, ◌-◌, ◌*◌, ◌/◌, ◌^◌, ◌≤◌, ◌<◌, min}
+use native.Mathlib.Nat.{zero-mul}
 use native.Mathlib.Numerals.{add-one}
 use lib.IntN.{ℤ}
 use lib.ListN.{length, take, drop, length-take, length-drop}
@@ -18,7 +19,7 @@ use Rattle.records.specs.Counted.{counts_of}
 use Rattle.records.specs.Record.{selector_of}
 use Rattle.records.proofs.Walk.{Walk, selector-row, walk_first, walk-fits, walk-next, walk-done, walk-stops, first-start, first_on, first-set}
 use Rattle.records.proofs.decode_rows.Invariants.{all}
-use Rattle.records.proofs.decode_rows.Goals.{After-band-1, After-least-rest, After-struct_known-in-loop-k-1, In-loop-k, Start, Then-r-ne0}
+use Rattle.records.proofs.decode_rows.Goals.{After-band-1, After-min-rest, After-stops, In-loop-k, Start, Then-stops}
 use Rattle.records.proofs.decode_rows.Goals as goal
 
 pub loop-k-init : goal.loop-k-init
@@ -28,10 +29,9 @@ loop-k-init c =
     let p = a.packet.now in
     let r = as_reader a.reader in
     let start = walk_first p (selector p a.i) a.m a.cols a.count r a.band.now h.shape.4 in (
-      start,
+      rw (zero-mul a.cols) start,
       refl,
       h.ready.0,
-      omega arith,
       h.ready.1,
       first-start p (selector p a.i) a.m a.cols r,
       sym (used-none p (selector p a.i) a.m a.cols r h.ready.1),
@@ -40,7 +40,7 @@ loop-k-init c =
 -- in the loop: one row fewer is left after this one, whose part lies within the band
 record Inside (c : In-loop-k) : Type 0 where
   next : let n = c.args.count in let k = c.loop-k.k in n - k ≡ suc (n - (k + 1))
-  fits : c.loop-k.at + c.args.cols ≤ length c.loop-k.band
+  fits : c.loop-k.k * c.args.cols + c.args.cols ≤ length c.loop-k.band
 
 inside : (c : In-loop-k) → Inside c
 inside c =
@@ -50,7 +50,7 @@ inside c =
     let next : a.count - l.k ≡ suc (a.count - (l.k + 1)) = omega (arith, c.loop-k-test.true) in
     record {
       next = next;
-      fits = walk-fits p (selector p a.i) a.m a.cols (as_reader a.reader) _ l.band l.at (a.count - l.k) l.k (as_reader l.r)
+      fits = walk-fits p (selector p a.i) a.m a.cols (as_reader a.reader) _ l.band (l.k * a.cols) (a.count - l.k) l.k (as_reader l.r)
           l.invariant.0 (a.count - (l.k + 1)) next;
     }
 
@@ -60,7 +60,7 @@ overflow_add-end c = omega (arith, (inside c).fits, c.loop-k.invariant.1, c.well
 pub decode_component-row-requires : goal.decode_component-row-requires
 decode_component-row-requires c =
     record {
-      ready = c.loop-k.invariant.2;
+      ready = rw c.bytes.ensures.0 c.loop-k.invariant.2;
       selector_bound = (c.selector_of-selector.ensures.1, simp (length-take, length-drop) (omega (arith, c.requires.shape.2)));
     }
 
@@ -82,7 +82,7 @@ module _ (c : After-band-1) where
   r₀ = as_reader s.args.reader
 
   abbrev at : ℕ
-  at = n.loop-k.at
+  at = n.loop-k.k * s.args.cols
 
   abbrev k : ℕ
   k = n.loop-k.k
@@ -115,7 +115,7 @@ module _ (c : After-band-1) where
   stands post same =
       let a = s.args in
       let l = n.loop-k in
-      let e = c.decode_component-row.ensures in
+      let e = rw c.bytes.ensures.0 at c.decode_component-row.ensures in
       walk-next p sel a.m a.cols r₀ _ band at (a.count - k) k (as_reader l.r) l.invariant.0 (a.count - (k + 1)) (inside n).next
       _ _ ys post end size own e.reader_after e.dst_after long same
 
@@ -130,9 +130,9 @@ module _ (c : After-band-1) where
   with_row =
       let a = s.args in
       let i = n.loop-k.invariant in
-      let row = c.decode_component-row.ensures.bits ∙ (λ j. row_used p (own j) (size j) (i.0.reader j)) in
+      let row = (rw c.bytes.ensures.0 at c.decode_component-row.ensures.bits) ∙ (λ j. row_used p (own j) (size j) (i.0.reader j)) in
       let on = used-on p sel a.m a.cols r₀ s.requires.ready.1 k in
-      (λ j. i.6 j + row j) ∙ sym on ∙ ap used (sym (add-one k))
+      (λ j. i.5 j + row j) ∙ sym on ∙ ap used (sym (add-one k))
 
   few : used (k + 1) < 2 ^ 40
   few =
@@ -148,53 +148,53 @@ module _ (c : After-band-1) where
       ∙ used-stopped p sel a.m a.cols r₀ s.requires.ready.1 (k + 1) (λ z. set (ap (λ (q : Reader). q.status) w ∙ z)) (a.count - k - 1)
       ∙ ap (λ (q : Reader). used (k + 1) + min (a.count - k - 1) q.remaining) (sym w)
 
-abbrev after-row : After-struct_known-in-loop-k-1 → After-band-1
-after-row c = (goal.at.After-struct_known-in-loop-k-1 c).After-band-1
+abbrev after-row : After-stops → After-band-1
+after-row c = (goal.at.After-stops c).After-band-1
 
 pub overflow_add-bits : goal.overflow_add-bits
 overflow_add-bits c = let d = (goal.at.overflow_add-bits c).After-band-1 in omega (arith, with_row d, few d)
 
 pub loop-k-preserved : goal.loop-k-preserved
 loop-k-preserved c =
-    let d = after-row (goal.at.loop-k-preserved c).After-struct_known-in-loop-k-1 in
+    let d = after-row (goal.at.loop-k-preserved c).After-stops in
     let w = stands d _ (same d) in
     let i = (n d).loop-k.invariant in
-    let a = (s d).args in (
-      w,
+    let a = (s d).args in
+    let next : k d * a.cols + a.cols ≡ (k d + 1) * a.cols = omega arith in (
+      rw (← next) w,
       same d ∙ i.1,
-      d.decode_component-row.ensures.still_ready,
-      omega (arith, (n d).loop-k-test.true),
-      c.if-r-ne0.false,
-      first_on (p d) (sel d) a.m a.cols (r₀ d) (k d) i.5 (end d) w.reader c.if-r-ne0.false,
+      rw d.bytes.ensures.0 at d.decode_component-row.ensures.still_ready,
+      (c.stops.ensures.1 c.if-stops.false),
+      first_on (p d) (sel d) a.m a.cols (r₀ d) (k d) i.4 (end d) w.reader (c.stops.ensures.1 c.if-stops.false),
       with_row d,
     )
 
 -- once a status is set
-module _ (c : After-least-rest) where
-  abbrev halt : Then-r-ne0
-  halt = (goal.at.After-least-rest c).Then-r-ne0
+module _ (c : After-min-rest) where
+  abbrev halt : Then-stops
+  halt = (goal.at.After-min-rest c).Then-stops
 
   abbrev row : After-band-1
-  row = after-row (goal.at.Then-r-ne0 halt).After-struct_known-in-loop-k-1
+  row = after-row (goal.at.Then-stops halt).After-stops
 
-  rest : c.least-rest.result ≡ min ((s row).args.count - k row - 1) (end row).remaining
-  rest = c.least-rest.ensures.value
+  rest : c.min-rest.result ≡ min ((s row).args.count - k row - 1) (end row).remaining
+  rest = c.min-rest.ensures
 
-  all-bits : (n row).loop-k.bits + row.decode_component-row.result.bits + c.least-rest.result ≡ used row (s row).args.count
-  all-bits = (λ j. with_row row j + rest j) ∙ sym (with_rest row halt.if-r-ne0.true)
+  all-bits : (n row).loop-k.bits + row.decode_component-row.result.bits + c.min-rest.result ≡ used row (s row).args.count
+  all-bits = (λ j. with_row row j + rest j) ∙ sym (with_rest row (halt.stops.ensures.0 halt.if-stops.true))
 
-pub returns-then-r-ne0 : goal.returns-then-r-ne0
-returns-then-r-ne0 c =
-    let l = (goal.at.returns-then-r-ne0 c).After-least-rest in
+pub returns-then-stops : goal.returns-then-stops
+returns-then-stops c =
+    let l = (goal.at.returns-then-stops c).After-min-rest in
     let z = l.clear_from.ensures in
     let t = halt l in
     let d = row l in
     let w = stands d _ (same d) in
     let i = (n d).loop-k.invariant in
     let a = (s d).args in
-    let first = first-set (p d) (sel d) a.m a.cols (r₀ d) (k d) i.5 (end d) w.reader a.count (omega (arith, (n d).loop-k-test.true)) t.if-r-ne0.true in record {
+    let first = first-set (p d) (sel d) a.m a.cols (r₀ d) (k d) i.4 (end d) w.reader a.count (omega (arith, (n d).loop-k-test.true)) (t.stops.ensures.0 t.if-stops.true) in record {
       value = c.one.ensures ∙ (λ j. counts_of (first j) (all-bits l j));
-      band_after = z ∙ walk-stops (p d) (sel d) a.m a.cols (r₀ d) _ _ _ _ _ (end d) w (s d).requires.ready.1 t.if-r-ne0.true _ refl;
+      band_after = z ∙ walk-stops (p d) (sel d) a.m a.cols (r₀ d) _ _ _ _ _ (end d) w (s d).requires.ready.1 (t.stops.ensures.0 t.if-stops.true) _ refl;
     }
 
 pub returns : goal.returns
@@ -204,11 +204,11 @@ returns c =
     let sel = selector p a.i in
     let r = as_reader a.reader in
     let l = c.loop-k in
-    let done : l.k ≡ a.count = omega (arith, l.invariant.3, c.loop-k-test.false) in
-    let first = sym l.invariant.5 ∙ ap (λ (n : ℕ). first_status p sel a.m a.cols n r) done in
-    let bits = l.invariant.6 ∙ ap (λ (n : ℕ). rows_used p sel a.m a.cols n r) done in record {
+    let done : l.k ≡ a.count = omega (arith, c.loop-k-test.false) in
+    let first = sym l.invariant.4 ∙ ap (λ (n : ℕ). first_status p sel a.m a.cols n r) done in
+    let bits = l.invariant.5 ∙ ap (λ (n : ℕ). rows_used p sel a.m a.cols n r) done in record {
       value = c.one-2.ensures ∙ (λ j. counts_of (first j) (bits j));
-      band_after = walk-done p sel a.m a.cols r _ l.band l.at (a.count - l.k) l.k (as_reader l.r) l.invariant.0 (omega (arith, done));
+      band_after = walk-done p sel a.m a.cols r _ l.band (l.k * a.cols) (a.count - l.k) l.k (as_reader l.r) l.invariant.0 (omega (arith, done));
     }
 
 pub selector_of-selector-requires : goal.selector_of-selector-requires
@@ -227,25 +227,22 @@ pub slice_bounds-decode_component-end : goal.slice_bounds-decode_component-end
 slice_bounds-decode_component-end c = (inside (goal.at.slice_bounds-decode_component-end c).In-loop-k).fits
 
 pub clear_from-requires : goal.clear_from-requires
-clear_from-requires c = let d = after-row (goal.at.clear_from-requires c).After-struct_known-in-loop-k-1 in omega (arith, same d, (inside (n d)).fits)
+clear_from-requires c = let d = after-row (goal.at.clear_from-requires c).After-stops in omega (arith, same d, (inside (n d)).fits)
 
 pub overflow_sub-count : goal.overflow_sub-count
-overflow_sub-count c = omega (arith, (n (after-row (goal.at.overflow_sub-count c).After-struct_known-in-loop-k-1)).loop-k-test.true)
+overflow_sub-count c = omega (arith, (n (after-row (goal.at.overflow_sub-count c).After-stops)).loop-k-test.true)
 
-pub overflow_sub-count-then-r-ne0 : goal.overflow_sub-count-then-r-ne0
-overflow_sub-count-then-r-ne0 c = omega (arith, (n (after-row (goal.at.overflow_sub-count-then-r-ne0 c).After-struct_known-in-loop-k-1)).loop-k-test.true)
+pub overflow_sub-count-then-stops : goal.overflow_sub-count-then-stops
+overflow_sub-count-then-stops c = omega (arith, (n (after-row (goal.at.overflow_sub-count-then-stops c).After-stops)).loop-k-test.true)
 
-pub overflow_add-bits-then-r-ne0 : goal.overflow_add-bits-then-r-ne0
-overflow_add-bits-then-r-ne0 c = let d = row c in omega (arith, all-bits c, used-most (p d) (sel d) (s d).args.m (s d).args.cols (r₀ d) (s d).requires.ready.1 (s d).args.count, (s d).requires.ready.0.room)
+pub overflow_add-bits-then-stops : goal.overflow_add-bits-then-stops
+overflow_add-bits-then-stops c = let d = row c in omega (arith, all-bits c, used-most (p d) (sel d) (s d).args.m (s d).args.cols (r₀ d) (s d).requires.ready.1 (s d).args.count, (s d).requires.ready.0.room)
 
-pub shape_of-band-then-r-ne0 : goal.shape_of-band-then-r-ne0
-shape_of-band-then-r-ne0 c = let l = (goal.at.shape_of-band-then-r-ne0 c).After-least-rest in let d = row l in l.clear_from.auto.band ∙ same d ∙ (n d).loop-k.invariant.1
+pub shape_of-band-then-stops : goal.shape_of-band-then-stops
+shape_of-band-then-stops c = let l = (goal.at.shape_of-band-then-stops c).After-min-rest in let d = row l in l.clear_from.auto.band ∙ same d ∙ (n d).loop-k.invariant.1
 
-pub overflow_add-k : goal.overflow_add-k
-overflow_add-k c = omega (arith, (n (after-row (goal.at.overflow_add-k c).After-struct_known-in-loop-k-1)).loop-k-test.true)
-
-pub loop-k-smaller : goal.loop-k-smaller
-loop-k-smaller c = omega (arith, (n (after-row (goal.at.loop-k-smaller c).After-struct_known-in-loop-k-1)).loop-k-test.true)
+pub overflow_mul-at : goal.overflow_mul-at
+overflow_mul-at c = omega (arith, (inside (goal.at.overflow_mul-at c).In-loop-k).fits, c.loop-k.invariant.1, c.well_formed)
 
 pub shape_of-band : goal.shape_of-band
 shape_of-band c = c.loop-k.invariant.1

@@ -1,7 +1,7 @@
 -- `decode_rows` meets its contract. Assumes nothing.
 use mathlib.Core.Path.{◌≡◌}
 use mathlib.Core.List.{List}
-use Prim.Native.Nat.{ℕ, ◌-◌, ◌≤◌}
+use Prim.Native.Nat.{ℕ, ◌-◌, ◌*◌}
 use lib.IntN.{ℤ}
 use lib.ListN.{length}
 use Rattle.format.specs.Packets.{selector}
@@ -19,10 +19,7 @@ all p i m cols count r = (rows_of p (selector p i) m cols count 0 (as_reader r))
 
 abbrev pub invariant-loop-k : goal.invariant-loop-k
 invariant-loop-k l =
-    Walk l.packet (selector l.packet l.i) l.m l.cols (as_reader l.initial.r) (all l.packet l.i l.m l.cols l.count l.initial.r) l.band l.at (l.count - l.k) l.k (as_reader l.r)
-    × (length l.band ≡ length l.initial.band) × Ready l.packet l.r × (l.k ≤ l.count)
-    × (l.r.status ≡ 0) × (first_status l.packet (selector l.packet l.i) l.m l.cols l.k (as_reader l.initial.r) ≡ 0)
+    Walk l.packet (selector l.packet l.i) l.m l.cols (as_reader l.initial.r) (all l.packet l.i l.m l.cols l.count l.initial.r) l.band (l.k * l.cols) (l.count - l.k) l.k (as_reader l.r)
+    × (length l.band ≡ length l.initial.band) × Ready l.packet l.r
+    × ((as_reader l.r).status ≡ 0) × (first_status l.packet (selector l.packet l.i) l.m l.cols l.k (as_reader l.initial.r) ≡ 0)
     × (l.bits ≡ rows_used l.packet (selector l.packet l.i) l.m l.cols l.k (as_reader l.initial.r))
-
-abbrev pub decreases-loop-k : goal.decreases-loop-k
-decreases-loop-k l = l.count - l.k

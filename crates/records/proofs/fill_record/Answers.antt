@@ -12,7 +12,7 @@ use Rattle.records.proofs.fill_record.Goals as goal
 pub decode_record-requires : goal.decode_record-requires
 decode_record-requires c =
     record {
-      in_bounds = (c.requires.in_bounds.0, omega (arith, c.if-i-blocks.true, c.blocks-2.ensures.0, bits-lt c.args.packet.now 56 16), c.requires.in_bounds.1);
+      in_bounds = (omega (arith, c.if-i-blocks.true, c.blocks-2.ensures.0, bits-lt c.args.packet.now 56 16), c.requires.in_bounds);
       shape = c.requires.shape;
     }
 
@@ -35,5 +35,5 @@ returns c =
     let missing = le-ltb s.args.i (blocks s.args.packet.now) (omega (arith, t.if-i-blocks.false, t.blocks-2.ensures.0)) in
     record {
       value = simp missing c.none.ensures;
-      band_after = simp missing (b.clear.ensures ∙ ap zeros s.requires.shape.2);
+      band_after = simp missing (b.fill.ensures.after (λ y e. e) ∙ ap zeros s.requires.shape.2);
     }

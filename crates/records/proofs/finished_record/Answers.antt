@@ -10,7 +10,7 @@ pub finish_record-requires : goal.finish_record-requires
 finish_record-requires c =
     let d = (goal.at.finish_record-requires c).After-fill_record-counts in
     let s = d in
-    let m = mul-le-mul_right s.args.h.cols s.requires.in_bounds.2 in
+    let m = mul-le-mul_right s.args.h.cols s.requires.in_bounds.1 in
     omega (arith, m, s.requires.shape.2, d.fill_record-counts.auto.band)
 
 pub returns : goal.returns

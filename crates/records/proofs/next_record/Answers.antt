@@ -79,7 +79,7 @@ pub finished_record-one-requires : goal.finished_record-one-requires
 finished_record-one-requires c =
     let f = slot (goal.at.finished_record-one-requires c).After-struct_known-4-1 in
     let a = s f in record {
-      in_bounds = (a.requires.in_bounds.0, a.requires.in_bounds.2, a.requires.in_bounds.4);
+      in_bounds = (a.requires.in_bounds.1, a.requires.in_bounds.3);
       shape = (a.requires.shape.0, a.requires.shape.1, simp (length-take, length-drop) (omega (arith, fits f, size_is f)));
     }
 
@@ -104,12 +104,12 @@ plus-counts-requires c =
     let a = (s f).args in
     let b : a.i < blocks (p f) = omega (arith, t.if-blocks-i.false, t.blocks-2.ensures.0) in
     let e = rw (lt-ltb a.i (blocks (p f)) b) at d.finished_record-one.ensures.value in
-    ((s f).requires.in_bounds.3, rw e (few-more (2 ^ 19) (2 ^ 60) _ (omega arith) (record-few (p f) a.h.m a.h.cols a.i a.v.offset)))
+    ((s f).requires.in_bounds.2, rw e (few-more (2 ^ 19) (2 ^ 60) _ (omega arith) (record-few (p f) a.h.m a.h.cols a.i a.v.offset)))
 
 pub overflow_add-result : goal.overflow_add-result
 overflow_add-result c =
     let d = (goal.at.overflow_add-result c).After-finished_record-one in
-    omega (arith, c.record_length.ensures.1, (s (slot (goal.at.After-finished_record-one d).After-struct_known-4-1)).requires.in_bounds.2)
+    omega (arith, c.record_length.ensures.1, (s (slot (goal.at.After-finished_record-one d).After-struct_known-4-1)).requires.in_bounds.1)
 
 pub returns : goal.returns
 returns c =

@@ -1,7 +1,7 @@
 -- `records::next_records` meets its contract: k records are laid, each into its slot. Assumes nothing.
 use mathlib.Core.Path.{◌≡◌}
 use mathlib.Core.List.{List}
-use Prim.Native.Nat.{ℕ, ◌+◌, ◌-◌, ◌*◌, ◌%◌, ◌≤◌}
+use Prim.Native.Nat.{ℕ, ◌+◌, ◌*◌, ◌%◌}
 use lib.IntN.{ℤ}
 use lib.ListN.{length}
 use Rattle.lists.specs.Lists.{laid}
@@ -22,8 +22,5 @@ done p from v h f k = finished_by f h.cols (from + k) (values_by p h.m h.cols fr
 
 abbrev pub invariant-loop-k : goal.invariant-loop-k
 invariant-loop-k l =
-    (l.k ≤ l.count) × (length l.work ≡ length l.initial.work) × (l.r ≡ walked_by l.packet l.h.m l.h.cols l.from l.initial.r l.k)
+    (length l.work ≡ length l.initial.work) × (l.r ≡ walked_by l.packet l.h.m l.h.cols l.from l.initial.r l.k)
     × (l.work ≡ laid (placed l.packet l.from l.h) (done l.packet l.from l.initial.r l.h l.f) l.initial.work l.k)
-
-abbrev pub decreases-loop-k : goal.decreases-loop-k
-decreases-loop-k l = l.count - l.k

@@ -7,9 +7,9 @@ use Rattle.records.proofs.selectors_at.Goals as goal
 
 pub returns : goal.returns
 returns c =
-    let a = c.field in
-    let b = c.field-2 in
-    let d = c.field-3 in
+    let a = c.bits in
+    let b = c.bits-2 in
+    let d = c.bits-3 in
     let g = c.args in
     let p = g.packet.now in
     let at = c.record_bit-at.result in

@@ -1,44 +1,18 @@
 -- `recovery::index_back` meets its contract. Assumes nothing.
-use mathlib.Core.Path.{ap, ◌∙◌}
-use Prim.Native.Nat.{ℕ}
-use Rattle.format.specs.Refusals.{◌▷◌}
+use Rattle.std.proofs.Common.{subst, ℕ, false}
+use Rattle.refusals.specs.Number.{code_of}
+use Rattle.refusals.proofs.Laws.{code_of-and-4}
+use Rattle.format.specs.Sizes.{l1, l2, l3}
+use Rattle.recovery.specs.Recovered.{ll_step, LevelBack}
 use Rattle.recovery.proofs.IndexLaws.{index_back}
-use Rattle.recovery.proofs.Rooms.{block-as}
-use Rattle.recovery.proofs.index_back.Goals.{After-first_back-c, After-first_of, After-first_of-2, After-second_back-b, After-steps_back-d, After-third_back-a}
 use Rattle.recovery.proofs.index_back.Goals as goal
-
-pub second_back-b-requires : goal.second_back-b-requires
-second_back-b-requires c =
-    let t = (goal.at.second_back-b-requires c).After-third_back-a in
-    let s = t in
-    block-as _ _ _ _ t.third_back-a.ensures.long s.requires.0
-
-pub first_back-c-requires : goal.first_back-c-requires
-first_back-c-requires c =
-    let u = (goal.at.first_back-c-requires c).After-second_back-b in
-    let t = (goal.at.After-second_back-b u).After-third_back-a in
-    let s = t in
-    block-as _ _ _ _ (u.second_back-b.ensures.long ∙ t.third_back-a.ensures.long) s.requires.0
-
-pub steps_back-d-requires : goal.steps_back-d-requires
-steps_back-d-requires c =
-    let v = (goal.at.steps_back-d-requires c).After-first_back-c in
-    let u = (goal.at.After-first_back-c v).After-second_back-b in
-    let t = (goal.at.After-second_back-b u).After-third_back-a in
-    let s = t in
-    block-as _ _ _ _ (v.first_back-c.ensures.long ∙ u.second_back-b.ensures.long ∙ t.third_back-a.ensures.long) s.requires.0
 
 pub returns : goal.returns
 returns c =
-    let f2 = (goal.at.returns c).After-first_of-2 in
-    let f1 = (goal.at.After-first_of-2 f2).After-first_of in
-    let w = (goal.at.After-first_of f1).After-steps_back-d in
-    let v = (goal.at.After-steps_back-d w).After-first_back-c in
-    let u = (goal.at.After-first_back-c v).After-second_back-b in
-    let t = (goal.at.After-second_back-b u).After-third_back-a in
-    let s = t in
-    let a = s.args in
-    let k = s.requires.0 in
+    let a = c.args in
+    let k = c.requires.0 in
+    let second = subst (λ (n : ℕ). LevelBack a.z a.at l2 false n (ll_step a.z l3) c.level_back-ll_3.new.work c.level_back-ll_2.new.work (code_of c.level_back-ll_2.result.1)) c.level_back-ll_3.ensures.0 c.level_back-ll_2.ensures.1 in
+    let first = subst (λ (n : ℕ). LevelBack a.z a.at l1 false n (ll_step a.z l2) c.level_back-ll_2.new.work c.level_back-ll_1.new.work (code_of c.level_back-ll_1.result.1)) c.level_back-ll_2.ensures.0 c.level_back-ll_1.ensures.1 in
     index_back a.z a.at a.odd a.from k.fits.0.whole k.all k.fits.0.tall k.front _ _ _ _ _ _ _ _ _
-    t.third_back-a.ensures u.second_back-b.ensures v.first_back-c.ensures w.steps_back-d.ensures _
-    (c.first_of-3.ensures ∙ ap (λ (n : ℕ). t.third_back-a.result ▷ n) (f2.first_of-2.ensures ∙ ap (λ (n : ℕ). u.second_back-b.result ▷ n) f1.first_of.ensures))
+    c.level_back-ll_3.ensures.1 second first c.steps_back-d.ensures _
+    (code_of-and-4 _ _ _ _ _ c.and.ensures c.and-2.ensures _ _ c.and-3.ensures)

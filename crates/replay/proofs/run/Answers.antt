@@ -1,25 +1,33 @@
 -- `replay::run` meets its contract: every case is counted once. Assumes nothing.
-use mathlib.Core.Path.{refl, ◌∙◌, ap}
-use Prim.Native.Nat.{ℕ, ◌+◌}
-use native.Mathlib.Omega.{arith}
-use lib.ListN.{length-set}
-use Rattle.replay.proofs.Tallied.{total-none, count_most, total-next}
+use Rattle.std.proofs.Common.{◌≡◌, ℕ, ◌+◌, ◌<◌, List, length, get_or, arith, refl, ◌∙◌, ap}
+use lib.ListN.{set, length-set}
+use Rattle.replay.specs.declared.Count.{Count}
+use Rattle.replay.specs.Tally.{total, counts_of}
+use Rattle.replay.proofs.Tallied.{none, count_most, total_next}
+use Rattle.replay.proofs.run.Goals.{then-right, else-right}
 use Rattle.replay.proofs.run.Goals as goal
 
-pub loop-i-init : goal.loop-i-init
-loop-i-init g c = (refl, total-none 16, omega arith)
+pub loop-init : goal.loop-init
+unfolding total
+loop-init g c = (refl, omega (arith, c.default-tally.ensures))
 
--- no count leaves the word
-pub overflow_add-tally : goal.overflow_add-tally
-overflow_add-tally g c =
-    let at = c.loop-i in
-    omega (arith, count_most at.tally c.next_case-at.result, at.invariant)
+pub overflow_add-count : goal.overflow_add-count
+overflow_add-count g c = omega (arith, count_most none c.loop.tally c.place.result (omega (arith, c.loop.invariant, c.place.ensures)), c.loop.invariant)
 
-pub loop-i-preserved : goal.loop-i-preserved
-loop-i-preserved g c =
-    let at = c.loop-i in
-    let k = c.next_case-at.result in (
-      length-set at.tally k _ ∙ at.invariant.0,
-      total-next at.tally k (omega (arith, at.invariant.0, c.next_case-at.ensures)) ∙ ap (λ (n : ℕ). n + 1) at.invariant.1,
-      omega arith,
-    )
+pub overflow_add-count-else-right : goal.overflow_add-count-else-right
+overflow_add-count-else-right g c = omega (arith, count_most none c.loop.tally c.place.result (omega (arith, c.loop.invariant, c.place.ensures)), c.loop.invariant)
+
+-- a count that is one more than it was
+counted : (l m : List Count) (k n : ℕ) (c : Count) → (length l ≡ 8) × (total (counts_of l) ≡ n) → k < 8 → m ≡ set l k c
+    → c.right + c.wrong ≡ (get_or l k none).right + (get_or l k none).wrong + 1 → (length m ≡ 8) × (total (counts_of m) ≡ n + 1)
+counted l m k n c (long, all) low is e = rw is (length-set l k c ∙ long, total_next none l k c (omega arith) e ∙ ap (λ t. t + 1) all)
+
+pub loop-preserved : goal.loop-preserved
+loop-preserved g c =
+    let l = c.loop.tally in
+    let k = c.place.result in
+    let here : Count = get_or l k none in
+    elim c.if-right.branch [
+      | then-right w ↦ counted l c.if-right.tally k c.loop.counter (record { right = here.right + 1; wrong = here.wrong }) c.loop.invariant c.place.ensures w.tally-is (omega arith)
+      | else-right w ↦ counted l c.if-right.tally k c.loop.counter (record { right = here.right; wrong = here.wrong + 1 }) c.loop.invariant c.place.ensures w.tally-is (omega arith)
+    ]

@@ -11,7 +11,7 @@ returns c =
     let d = c.decode_row-after in
     let left = c.args.reader.remaining in
     record {
-      bits = c.less.ensures ∙ ap (λ (r : Reader). left - r.remaining) d.ensures.value;
+      bits = c.saturating_sub.ensures ∙ ap (λ (r : Reader). left - r.remaining) d.ensures.value;
       reader_after = d.ensures.value;
       dst_after = d.ensures.dst_after;
       still_ready = d.ensures.still_ready;

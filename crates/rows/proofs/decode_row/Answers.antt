@@ -1,11 +1,8 @@
 -- `decode_row` meets its contract. Assumes nothing.
-use mathlib.Core.Path.{refl}
 use native.Mathlib.Omega.{arith}
-use lib.Count.{count_leading_zeros}
+use lib.Dec.{lit<}
 use lib.ListN.{length}
-use Rattle.lists.specs.Lists.{tab}
 use Rattle.bits.specs.View.{as_reader}
-use Rattle.rows.specs.Word.{move_of, length_of}
 use Rattle.rows.specs.Course.{state_of}
 use Rattle.rows.proofs.Filled.{clean_all}
 use Rattle.rows.proofs.Row.{Decoding, decoding-first, decoding-on, decoding-halted, decoding-done}
@@ -15,19 +12,18 @@ use Rattle.rows.proofs.decode_row.Goals as goal
 pub loop-out-init : goal.loop-out-init
 loop-out-init c =
     let a = c.args in
-    let k = c.clear in
-    let first = c.width_opening-first in
-    decoding-first a.packet.now a.selector (length a.dst.now) k.new.dst first.result.reader first.result.value k.auto.dst first.ensures.ready
-    (clean_all k.new.dst (length a.dst.now) k.ensures)
+    let k = c.fill in
+    let first = c.width_update-first in
+    decoding-first a.packet.now a.selector (length a.dst.now) k.new.self first.result.reader first.result.value k.auto.self first.ensures.still_ready
+    (clean_all k.new.self (length a.dst.now) (k.ensures.after (λ y e. e)))
 
 pub returns-then-halts : goal.returns-then-halts
 returns-then-halts c =
-    let told = decoding-halted c.loop-out.invariant (as_reader c.args.reader) c.width_opening-first.ensures.value c.loop-out-test.true
+    let told = decoding-halted c.loop-out.invariant (as_reader c.args.reader) c.width_update-first.ensures.value c.loop-out-test.true
     (c.halts.ensures.0 c.if-halts.true) c.stop.result c.stop.ensures.value (c.stop.ensures.still_ready _) in
     record { value = told.0; dst_after = told.1.0; still_ready = told.1.1 }
 
 pub quick-far-requires : goal.quick-far-requires
-unfolding tab move_of length_of count_leading_zeros
 quick-far-requires c =
     let l = c.loop-out.invariant in
     let s = c.requires.selector_bound in
@@ -36,23 +32,23 @@ quick-far-requires c =
     record {
       ready = l.ready;
       going = (goes.0, omega (arith, l.same, s), omega (arith, l.same, more), goes.1, s.0);
-      clean = (l.clean, (refl, refl));
+      clean = l.clean;
     }
 
 -- the row after the quick part of a turn
 quicked : (c : After-quick-far)
     → let a = c.args in
-    let w = c.width_opening-first.result in
+    let w = c.width_update-first.result in
     let q = c.quick-far in
-    Decoding a.packet.now a.selector (length a.dst.now) (state_of w.value w.reader) c.clear.new.dst q.new.dst
-    q.result.reader q.result.width q.result.out
+    Decoding a.packet.now a.selector (length a.dst.now) (state_of w.value w.reader) c.fill.new.self q.new.dst
+    q.result.reader q.result.width q.result.value
 quicked c =
     let q = c.quick-far in
     decoding-on c.loop-out.invariant q.ensures.onward (omega (arith, q.ensures.done.inside, c.loop-out.invariant.same)) q.ensures.done.ready
 
 pub returns-then-halts-2 : goal.returns-then-halts-2
 returns-then-halts-2 c =
-    let told = decoding-halted (quicked (goal.at.returns-then-halts-2 c).After-quick-far) (as_reader c.args.reader) c.width_opening-first.ensures.value c.if-out-n.true
+    let told = decoding-halted (quicked (goal.at.returns-then-halts-2 c).After-quick-far) (as_reader c.args.reader) c.width_update-first.ensures.value c.if-out-n.true
     (c.halts-then-out-n.ensures.0 c.if-halts-2.true) c.stop-then-halts-2.result c.stop-then-halts-2.ensures.value (c.stop-then-halts-2.ensures.still_ready _) in
     record { value = told.0; dst_after = told.1.0; still_ready = told.1.1 }
 
@@ -76,11 +72,11 @@ loop-out-preserved-then-out-n c =
 
 pub returns : goal.returns
 returns c =
-    let told = decoding-done c.loop-out.invariant (as_reader c.args.reader) c.width_opening-first.ensures.value (omega arith) in
+    let told = decoding-done c.loop-out.invariant (as_reader c.args.reader) c.width_update-first.ensures.value (omega arith) in
     record { value = told.0; dst_after = told.1.0; still_ready = told.1.1 }
 
-pub width_opening-first-requires : goal.width_opening-first-requires
-width_opening-first-requires c = c.requires.ready
+pub width_update-first-requires : goal.width_update-first-requires
+width_update-first-requires c = record { ready = c.requires.ready; width_bound = lit< tt }
 
 pub shape_of-dst-then-halts : goal.shape_of-dst-then-halts
 shape_of-dst-then-halts c = c.loop-out.invariant.same

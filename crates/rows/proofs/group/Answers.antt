@@ -1,8 +1,6 @@
 -- `group` meets its contract. Assumes nothing.
 use native.Mathlib.Nat.{lt_of_lt_of_le}
 use lib.Pow.{pow_mono}
-use mir.Syntax.{w32}
-use mir.ValLaws.{to_z-of_z}
 use Rattle.format.specs.Coefficients.{group_of}
 use Rattle.rows.proofs.group.Goals as goal
 
@@ -19,15 +17,7 @@ pub returns : goal.returns
 unfolding group_of
 returns c =
     let z = c.signs-z in
-    let told = c.struct_told-1.given in record {
-      value = simp (
-        to_z-of_z w32 z.result.a (record { sfits = told.0.1 }),
-        to_z-of_z w32 z.result.b (record { sfits = told.1.0.1 }),
-        to_z-of_z w32 z.result.c (record { sfits = told.1.1.0.1 }),
-        to_z-of_z w32 z.result.d (record { sfits = told.1.1.1.0.1 }),
-        ← c.read4-q.ensures.value,
-        ← c.width_next-n.ensures.value,
-        ← z.ensures.value,
-      );
+    record {
+      value = simp (← c.read4-q.ensures.value, ← c.width_next-n.ensures.value, ← z.ensures.value);
       still_ready = z.ensures.still_ready;
     }

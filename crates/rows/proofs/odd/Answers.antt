@@ -1,17 +1,30 @@
 -- `odd` meets its contract. Assumes nothing.
 use borrow.Author.Rules.{rules}
-use mathlib.Core.Path.{sym, ap}
-use lib.IntN.{pos}
+use mathlib.Core.Path.{◌≡◌, ap, ◌∙◌}
+use mathlib.Core.Bool.{Bool, not}
+use mathlib.Core.Logic.{⊎_elim}
+use Prim.Native.Nat.{ℕ, ◌%◌, ◌≤◌, ◌<◌}
+use native.Mathlib.Omega.{arith}
+use lib.Dec.{eqb}
+use lib.IntN.{pos, nat_abs}
+use mir.Syntax.{w32}
+use mir.Val.{SFits, bool_byte}
 use mir.Facts.{to_z-of_z}
-use Rattle.wrap32.proofs.Laws.{half-fits}
-use Rattle.rows.proofs.StretchLaws.{even, uneven}
+use Rattle.format.proofs.BitLaws.{le-or-lt}
+use Rattle.wrap32.proofs.Laws.{half-fits, odd-bit}
 use Rattle.rows.proofs.odd.Goals as goal
+
+bit : (n : ℕ) → bool_byte (not (eqb (n % 2) 0)) ≡ n % 2
+bit n = ⊎_elim
+    (λ (h : n % 2 ≤ 0). let e : n % 2 ≡ 0 = omega (arith, h) in simp e)
+    (λ (h : 0 < n % 2). let e : n % 2 ≡ 1 = omega (arith, h) in simp e)
+    (le-or-lt (n % 2) 0)
 
 pub nonzero_rem-x : goal.nonzero_rem-x
 nonzero_rem-x c = let f = c.ranges.x in simp to_z-of_z (search rules, half-fits _ f)
 
-pub returns-then-x-eq0 : goal.returns-then-x-eq0
-returns-then-x-eq0 c = let f = c.ranges.x in sym (ap pos (even c.args.x (simp to_z-of_z at c.if-x-eq0.true)))
-
-pub returns-else-x-eq0 : goal.returns-else-x-eq0
-returns-else-x-eq0 c = let f = c.ranges.x in sym (ap pos (uneven c.args.x (simp to_z-of_z at c.if-x-eq0.false)))
+pub returns : goal.returns
+returns c =
+    let f = c.ranges.x in
+    let r : SFits w32 c.from.result = search rules in
+    to_z-of_z r ∙ (simp to_z-of_z at c.from.ensures) ∙ ap (λ (b : Bool). pos (bool_byte b)) (odd-bit c.args.x) ∙ ap pos (bit (nat_abs c.args.x))

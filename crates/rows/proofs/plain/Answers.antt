@@ -1,10 +1,5 @@
 -- `plain` meets its contract. Assumes nothing.
 use native.Mathlib.Omega.{arith}
-use mathlib.Core.Path.{◌≡◌, ◌∙◌}
-use Prim.Native.Nat.{◌+◌}
-use lib.ListN.{set}
-use mir.Syntax.{w32}
-use mir.ValLaws.{to_z-of_z}
 use Rattle.bits.specs.View.{as_reader}
 use Rattle.rows.specs.Course.{state_of}
 use Rattle.rows.specs.View.{as_run}
@@ -29,18 +24,9 @@ returns c =
     let g = c.group-q in
     let v = g.result in
     let p = c.put4 in
-    let told = c.struct_told-4-1.given in
     let at = a.out in
-    let d = a.dst.now in
-    let stored : p.new.dst ≡ set (set (set (set d at v.a) (at + 1) v.b) (at + 2) v.c) (at + 3) v.d =
-    p.ensures
-    ∙ simp (
-      to_z-of_z w32 v.a (record { sfits = told.0.1 }),
-      to_z-of_z w32 v.b (record { sfits = told.1.0.1 }),
-      to_z-of_z w32 v.c (record { sfits = told.1.1.0.1 }),
-      to_z-of_z w32 v.d (record { sfits = told.1.1.1.0.1 }),
-    ) in record {
-      onward = onward-group a.packet.now a.selector d at (state_of a.width a.reader) c.requires.clean v.a v.b v.c v.d v.width (as_reader v.reader) g.ensures.value
-          c.requires.going.0 (omega (arith, c.requires.going)) c.if-width-eq0.false (omega (arith, c.requires.going)) p.new.dst stored;
+    let d = a.dst.now in record {
+      onward = onward-group a.packet.now a.selector d at (state_of a.width a.reader) c.requires.clean v.value.a v.value.b v.value.c v.value.d v.width (as_reader v.reader) g.ensures.value
+          c.requires.going.0 (omega (arith, c.requires.going)) c.if-width-eq0.false (omega (arith, c.requires.going)) p.new.dst p.ensures;
       done = (omega arith, omega (arith, c.requires.going), g.ensures.still_ready);
     }

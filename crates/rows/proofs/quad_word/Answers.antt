@@ -38,7 +38,6 @@ returns c =
         c.nonzero.ensures.0,
         c.nonzero-2.ensures.0,
         c.nonzero-3.ensures.0,
-        c.less-left.ensures,
         scaled-zero,
       ),
       omega (arith, c.nonzero-n1.ensures.1, c.nonzero.ensures.1, c.nonzero-2.ensures.1, c.nonzero-3.ensures.1),

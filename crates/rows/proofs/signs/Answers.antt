@@ -43,15 +43,19 @@ returns c =
     let fb : SFits w32 b0.result = search (rules, b0) in
     let fc : SFits w32 c0.result = search (rules, c0) in
     let fd : SFits w32 d0.result = search (rules, d0) in
+    let ra : SFits w32 a.result.value = search rules in
+    let rb : SFits w32 b.result.value = search rules in
+    let rc : SFits w32 c'.result.value = search rules in
+    let rd : SFits w32 d.result.value = search rules in
     let w = h.ahead-word.result in
     let ua = a.ensures.used_bound in
     let ub = b.ensures.used_bound in
     let uc = c'.ensures.used_bound in record {
       value = simp (
-        to_z-of_z w32 a.result.value (record { sfits = c.struct_told-1.given.0.1 }),
-        to_z-of_z w32 b.result.value (record { sfits = c.struct_told-2-1.given.0.1 }),
-        to_z-of_z w32 c'.result.value (record { sfits = c.struct_told-3-1.given.0.1 }),
-        to_z-of_z w32 d.result.value (record { sfits = c.struct_told-4-1.given.0.1 }),
+        to_z-of_z w32 a.result.value ra,
+        to_z-of_z w32 b.result.value rb,
+        to_z-of_z w32 c'.result.value rc,
+        to_z-of_z w32 d.result.value rd,
         c.skip.ensures.value,
       )
           (signs-word g.args.packet.now (as_reader g.args.reader) w h.ahead-word.ensures h.if-reader-lt4.false g.args.selector (as_four g.args.q)

@@ -1,107 +1,62 @@
 -- `tile::decode_accepted` meets its contract. Assumes nothing.
-use mathlib.Core.Path.{refl, ap, ◌∙◌}
-use Prim.Native.Nat.{◌-◌, ◌<◌, ◌^◌}
-use native.Mathlib.Omega.{arith}
-use lib.ListN.{length}
+use Rattle.std.proofs.Common.{refl, sym, ap, ◌∙◌}
 use lib.Seq.{length-take-le}
 use Rattle.format.specs.Sizes.{green, red, blue}
 use Rattle.format.specs.Coefficients.{zeros}
-use Rattle.tile.proofs.LentLaws.{Lent, first_part, full-room, red-room, blue-room, work-room, measured, fitted, full-rows, half-rows, work-in-units, full_is, half_is, work-is, plane-onto, work-onto}
-use Rattle.tile.proofs.decode_accepted.Goals.{After-colour_size-b, After-decode_planes, After-green_size-a, After-guarded-guarded, After-work_length-c, Start}
+use Rattle.tile.proofs.LentLaws.{lent_of, low_height, enough, blue-as-red, measured, fitted, full-rows, half-rows, work-in-units, plane-onto, work-onto}
 use Rattle.tile.proofs.decode_accepted.Goals as goal
 
--- the coded size of an accepted stream is small
-narrow : (h : Start) → h.args.w < 2 ^ 16
-narrow h = omega (arith, h.requires.size.0, h.requires.accepted.good.narrow)
+pub stripes-n-requires : goal.stripes-n-requires
+stripes-n-requires c = low_height _ _ c.requires.needed c.requires.accepted
 
-low : (h : Start) → h.args.h < 2 ^ 17
-low h = omega (arith, h.requires.size.1, h.requires.accepted.good.low)
+pub slice_bounds-decode_planes-end : goal.slice_bounds-decode_planes-end
+slice_bounds-decode_planes-end c = (enough _ _ c.requires.needed c.requires.accepted).0
 
--- what is known of the lent slices
-module _ (c : After-work_length-c) where
-  abbrev half : After-colour_size-b
-  half = (goal.at.After-work_length-c c).After-colour_size-b
+pub slice_bounds-decode_planes-end-2 : goal.slice_bounds-decode_planes-end-2
+slice_bounds-decode_planes-end-2 c = sym (length-take-le _ _ (enough _ _ c.requires.needed c.requires.accepted).0)
 
-  abbrev full : After-green_size-a
-  full = (goal.at.After-colour_size-b half).After-green_size-a
+pub slice_bounds-decode_planes-end-3 : goal.slice_bounds-decode_planes-end-3
+slice_bounds-decode_planes-end-3 c = (enough _ _ c.requires.needed c.requires.accepted).1
 
-  abbrev guard : After-guarded-guarded
-  guard = (goal.at.After-green_size-a full).After-guarded-guarded
+pub slice_bounds-decode_planes-end-4 : goal.slice_bounds-decode_planes-end-4
+slice_bounds-decode_planes-end-4 c = sym (length-take-le _ _ (enough _ _ c.requires.needed c.requires.accepted).1)
 
-  abbrev start : Start
-  start = (goal.at.After-guarded-guarded guard).Start
+pub slice_bounds-decode_planes-end-5 : goal.slice_bounds-decode_planes-end-5
+slice_bounds-decode_planes-end-5 c = (enough _ _ c.requires.needed c.requires.accepted).2
 
-  lent :
-      (let a = start.args in
-      Lent a.stream.now (length a.full.now) (length a.red.now) (length a.blue.now) (length a.work.now) a.w a.h
-      guard.stripes-n.result guard.guarded-guarded.result full.green_size-a.result half.colour_size-b.result c.work_length-c.result)
-  lent =
-      record {
-        ok = start.requires.accepted;
-        wide = start.requires.size.0;
-        tall = start.requires.size.1;
-        many = guard.stripes-n.ensures.0;
-        guard = guard.guarded-guarded.ensures;
-        fulls = full.green_size-a.ensures;
-        halves = half.colour_size-b.ensures;
-        alls = c.work_length-c.ensures;
-      }
+pub slice_bounds-decode_planes-end-6 : goal.slice_bounds-decode_planes-end-6
+slice_bounds-decode_planes-end-6 c = sym (length-take-le _ _ (enough _ _ c.requires.needed c.requires.accepted).2)
 
-pub decode_planes-requires : goal.decode_planes-requires
-decode_planes-requires c =
-    let w = (goal.at.decode_planes-requires c).After-work_length-c in
-    let a = (start w).args in
-    let l = lent w in record {
-      good = l.ok.good;
-      measured = (
-        measured l,
-        fitted l,
-        refl,
-        first_part a.work.now _ _ (work-room l) (work-in-units l),
-        first_part a.full.now _ _ (full-room l) (full-rows l),
-        first_part a.red.now _ _ (red-room l) (half-rows l),
-        first_part a.blue.now _ _ (blue-room l) (half-rows l),
-      );
-    }
+pub slice_bounds-decode_planes-end-7 : goal.slice_bounds-decode_planes-end-7
+slice_bounds-decode_planes-end-7 c = (enough _ _ c.requires.needed c.requires.accepted).3
+
+pub slice_bounds-decode_planes-end-8 : goal.slice_bounds-decode_planes-end-8
+slice_bounds-decode_planes-end-8 c = sym (length-take-le _ _ (enough _ _ c.requires.needed c.requires.accepted).3)
+
+pub decode_planes-requires-clause-measured : goal.decode_planes-requires-clause-measured
+decode_planes-requires-clause-measured c =
+    let l = lent_of _ _ c.requires.needed c.requires.accepted _ _ c.stripes-n.ensures.0 c.guarded.ensures in
+    let room = enough _ _ c.requires.needed c.requires.accepted in (
+      measured l,
+      fitted l,
+      refl,
+      length-take-le _ _ room.3 ∙ work-in-units l,
+      length-take-le _ _ room.0 ∙ full-rows l,
+      length-take-le _ _ room.1 ∙ half-rows l,
+      length-take-le _ _ room.2 ∙ blue-as-red _ _ c.requires.needed ∙ half-rows l,
+    )
 
 pub returns : goal.returns
 returns c =
-    let d = (goal.at.returns c).After-decode_planes in
-    let w = (goal.at.After-decode_planes d).After-work_length-c in
-    let a = (start w).args in
-    let l = lent w in
-    let e = d.decode_planes.ensures in
-    let size = w.work_length-c.result - 0 in
-    let long = length-take-le size a.work.now (omega (arith, work-room l)) in record {
+    let a = c.args in
+    let l = lent_of _ _ c.requires.needed c.requires.accepted _ _ c.stripes-n.ensures.0 c.guarded.ensures in
+    let e = c.decode_planes.ensures in
+    let long = length-take-le a.need.work a.work.now (enough _ _ c.requires.needed c.requires.accepted).3 in record {
       value = e.value;
       slices_after = (
-        plane-onto l green a.full.now _ ((full w).green_size-a.result - 0) e.slices_after.0 (omega (arith, full_is l)),
-        plane-onto l red a.red.now _ ((half w).colour_size-b.result - 0) e.slices_after.1 (omega (arith, half_is l)),
-        plane-onto l blue a.blue.now _ ((half w).colour_size-b.result - 0) e.slices_after.2 (omega (arith, half_is l)),
-        work-onto l a.work.now _ size (e.slices_after.3 ∙ ap zeros long) (omega (arith, work-is l)),
+        plane-onto l green a.full.now _ a.need.green e.slices_after.0 l.full_is,
+        plane-onto l red a.red.now _ a.need.red e.slices_after.1 l.half_is,
+        plane-onto l blue a.blue.now _ a.need.blue e.slices_after.2 (blue-as-red _ _ c.requires.needed ∙ l.half_is),
+        work-onto l a.work.now _ a.need.work (e.slices_after.3 ∙ ap zeros long) l.work_is,
       );
     }
-
-pub stripes-n-requires : goal.stripes-n-requires
-stripes-n-requires c = low (goal.at.stripes-n-requires c).Start
-
-pub green_size-a-requires : goal.green_size-a-requires
-green_size-a-requires c = (narrow (goal.at.green_size-a-requires c).Start, low (goal.at.green_size-a-requires c).Start)
-
-pub colour_size-b-requires : goal.colour_size-b-requires
-colour_size-b-requires c = (narrow (goal.at.colour_size-b-requires c).Start, low (goal.at.colour_size-b-requires c).Start)
-
-pub work_length-c-requires : goal.work_length-c-requires
-work_length-c-requires c = (narrow (goal.at.work_length-c-requires c).Start, low (goal.at.work_length-c-requires c).Start)
-
-pub slice_bounds-decode_planes-end : goal.slice_bounds-decode_planes-end
-slice_bounds-decode_planes-end c = full-room (lent c)
-
-pub slice_bounds-decode_planes-end-2 : goal.slice_bounds-decode_planes-end-2
-slice_bounds-decode_planes-end-2 c = red-room (lent (goal.at.slice_bounds-decode_planes-end-2 c).After-work_length-c)
-
-pub slice_bounds-decode_planes-end-3 : goal.slice_bounds-decode_planes-end-3
-slice_bounds-decode_planes-end-3 c = blue-room (lent (goal.at.slice_bounds-decode_planes-end-3 c).After-work_length-c)
-
-pub slice_bounds-decode_planes-end-4 : goal.slice_bounds-decode_planes-end-4
-slice_bounds-decode_planes-end-4 c = work-room (lent (goal.at.slice_bounds-decode_planes-end-4 c).After-work_length-c)

@@ -1,9 +1,5 @@
--- `undoing::averages` meets its contract: the averages of the first y rows stand. Assumes nothing.
-use mathlib.Core.Path.{◌≡◌}
-use mathlib.Core.List.{List}
-use Prim.Native.Nat.{ℕ, ◌+◌, ◌-◌, ◌*◌, ◌≤◌}
-use lib.IntN.{ℤ}
-use lib.ListN.{length}
+-- The averages of the first y rows stand.
+use Rattle.std.proofs.Common.{◌≡◌, List, ℕ, ℤ, ◌+◌, ◌-◌, ◌*◌}
 use Rattle.lists.specs.Lists.{part, laid}
 use Rattle.undoing.specs.Undo.{averages_row}
 use Rattle.undoing.proofs.averages.Given as goal
@@ -13,7 +9,4 @@ abbrev pub averages_of : List ℤ → List ℤ → ℕ → ℕ → ℕ → List 
 averages_of work plane from c y = averages_row c (part plane (y * (2 * c)) (2 * c)) (part work (from + (y - 1) * c) c) (part work (from + y * c) c)
 
 abbrev pub invariant-loop-y : goal.invariant-loop-y
-invariant-loop-y l = (l.y ≤ l.count) × (length l.work ≡ length l.initial.work) × (l.prev ≡ l.from + (l.y - 1) * l.c) × (l.work ≡ laid (λ y. l.to + y * l.c) (averages_of l.initial.work l.plane l.from l.c) l.initial.work l.y)
-
-abbrev pub decreases-loop-y : goal.decreases-loop-y
-decreases-loop-y l = l.count - l.y
+invariant-loop-y l = l.work ≡ laid (λ y. l.to + y * l.c) (averages_of l.initial.work l.plane l.from l.c) l.initial.work l.y

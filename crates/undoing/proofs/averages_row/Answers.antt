@@ -1,52 +1,31 @@
--- `undoing::averages_row` meets its contract: the first x averages stand. Assumes nothing.
-use borrow.Author.Rules.{rules}
-use mathlib.Core.Path.{◌≡◌, refl, ap, ◌∙◌}
-use Prim.Native.Nat.{ℕ, ◌+◌, ◌*◌, ◌<◌}
-use native.Mathlib.Omega.{arith}
-use Rattle.lists.specs.Lists.{part, put_at, tab}
+-- `undoing::averages_row` meets its contract. Assumes nothing.
+use Rattle.std.proofs.Common.{◌≡◌, ◌+◌, ◌-◌, arith, ap, ◌∙◌, ℕ}
+use Rattle.lists.specs.Lists.{put_at, tab}
 use Rattle.lists.proofs.Put.{put-start}
-use Rattle.lifting.specs.Lift.{at}
-use Rattle.undoing.specs.Undo.{guess_at, average_back}
-use Rattle.undoing.proofs.UndoLaws.{average-step}
-use Rattle.undoing.proofs.averages_row.Goals.{After-average_at, After-average_at-then-x-c, Then-x-c}
+use Rattle.undoing.proofs.UndoLaws.{put-none, average_of, average-step}
 use Rattle.undoing.proofs.averages_row.Goals as goal
 
 pub loop-x-init : goal.loop-x-init
-loop-x-init c = let s = c.args in (search rules, refl, put-start s.work.now s.to _)
+loop-x-init c = put-start c.args.work.now c.args.to _
 
 pub loop-x-preserved : goal.loop-x-preserved
 loop-x-preserved c =
-    let q = (goal.at.loop-x-preserved c).After-average_at in
-    let h = q in
-    let s = h.args in
-    let p = h.requires in
-    let x = h.loop-x.x in
-    let i = h.loop-x.invariant in (
-      search rules,
-      q.average_at.auto.work ∙ i.1,
-      q.average_at.ensures
-          ∙ average-step s.work.now h.loop-x.work s.row.now s.to s.prev s.cur s.c x p.in_bounds.1 p.apart.0 p.apart.1 (search rules) i.2 (x + 1) (search rules),
-    )
-
-pub returns-then-x-c : goal.returns-then-x-c
-returns-then-x-c c =
-    let q = (goal.at.returns-then-x-c c).After-average_at-then-x-c in
-    let t = (goal.at.After-average_at-then-x-c q).Then-x-c in
-    let h = t in
-    let s = h.args in
-    let l = s.work.now in
-    let p = h.requires in
-    let x = h.loop-x.x in
-    let b : x < s.c = search rules in
-    let e : x + 1 ≡ s.c = omega (arith, b, t.loop-x-test.false) in
-    q.average_at-then-x-c.ensures
-    ∙ average-step l h.loop-x.work s.row.now s.to s.prev s.cur s.c x p.in_bounds.1 p.apart.0 p.apart.1 b h.loop-x.invariant.2 x (omega (arith, e))
-    ∙ ap (λ (k : ℕ). put_at l s.to (tab k (λ x. average_back (at s.row.now (2 * x + 1)) (guess_at s.c (part l s.prev s.c) (part l s.cur s.c) x)))) e
-
-pub returns-else-x-c : goal.returns-else-x-c
-returns-else-x-c c =
     let s = c.args in
-    let l = s.work.now in
-    let e : c.loop-x.x ≡ s.c = omega (arith, c.loop-x.invariant.0, c.if-x-c.false) in
-    c.loop-x.invariant.2
-    ∙ ap (λ (k : ℕ). put_at l s.to (tab k (λ x. average_back (at s.row.now (2 * x + 1)) (guess_at s.c (part l s.prev s.c) (part l s.cur s.c) x)))) e
+    let p = c.requires in
+    let x = c.loop-x.x in
+    c.average_at.ensures
+    ∙ average-step s.work.now s.row.now s.prev s.cur s.c c.loop-x.work s.to x p.in_bounds.1 p.apart.0 p.apart.1 (omega arith) c.loop-x.invariant (x + 1) (omega arith)
+
+pub returns-after-loop-x : goal.returns-after-loop-x
+returns-after-loop-x c =
+    let s = c.args in
+    let p = c.requires in
+    let x = s.c - 1 in
+    let last : c.loop-x.x ≡ x = omega arith in
+    let all : x + 1 ≡ s.c = omega arith in
+    c.average_at-then-c-gt0.ensures
+    ∙ average-step s.work.now s.row.now s.prev s.cur s.c c.loop-x.work s.to x p.in_bounds.1 p.apart.0 p.apart.1 (omega arith) (rw last at c.loop-x.invariant) x (omega arith)
+    ∙ ap (λ (k : ℕ). put_at s.work.now s.to (tab k (average_of s.work.now s.row.now s.prev s.cur s.c))) all
+
+pub returns-else-c-gt0 : goal.returns-else-c-gt0
+returns-else-c-gt0 c = put-none c.args.work.now c.args.to c.args.c _ (omega arith)

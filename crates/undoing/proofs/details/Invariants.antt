@@ -1,14 +1,10 @@
--- `undoing::details` meets its contract: the details of the first y rows stand. Assumes nothing.
-use mathlib.Core.Path.{◌≡◌}
-use Prim.Native.Nat.{◌+◌, ◌-◌, ◌*◌, ◌≤◌}
-use lib.ListN.{length}
+-- The details of the first y rows stand.
+use Rattle.std.proofs.Common.{◌≡◌, ◌+◌, ◌*◌}
 use Rattle.lists.specs.Lists.{tab, laid}
 use Rattle.format.specs.Recovery.{d_of, read_plane}
 use Rattle.undoing.specs.Down.{detail_at}
 use Rattle.undoing.proofs.details.Given as goal
 
 abbrev pub invariant-loop-y : goal.invariant-loop-y
-invariant-loop-y l = (l.y ≤ l.count) × (length l.work ≡ length l.initial.work) × (l.work ≡ laid (λ y. l.at + detail_at l.e l.gap y * l.c) (λ y. tab l.c (d_of l.count (read_plane (2 * l.c) l.plane) y)) l.initial.work l.y)
-
-abbrev pub decreases-loop-y : goal.decreases-loop-y
-decreases-loop-y l = l.count - l.y
+invariant-loop-y l =
+    l.work ≡ laid (λ y. l.at + detail_at l.e l.gap y * l.c) (λ y. tab l.c (d_of l.count (read_plane (2 * l.c) l.plane) y)) l.initial.work l.y

@@ -17,7 +17,7 @@ held c =
     let i = a.place / 8 in
     let k = a.place % 8 + a.n in
     simp (c.load.ensures, c.top.ensures, c.load-2.ensures)
-    (pair-bits s i k (λ j. (c.shared_slice_known-1.given j).fits) (omega arith) ∙ ap (λ (p : ℕ). bits_at s p 64) (omega arith))
+    (pair-bits s i k (λ j. (c.type_inv.s j).fits) (omega arith) ∙ ap (λ (p : ℕ). bits_at s p 64) (omega arith))
 
 pub overflow_add-result : goal.overflow_add-result
 overflow_add-result c =

@@ -1,20 +1,18 @@
 -- `wrap32::edge_detail` meets its contract. Assumes nothing.
-use mathlib.Core.Path.{◌∙◌}
-use mir.Facts.{to_z-of_z}
-use Rattle.wrap32.proofs.Laws.{odd-bit, read_back, add_w-fits, sign_fits, edge-signed, edge-plain}
+use Rattle.std.proofs.Common.{to_z-of_z, ◌∙◌}
+use Rattle.wrap32.proofs.Laws.{odd-bit, read_back, add_w-fits, sign_fits, signum-is, edge-signed, edge-plain}
 use Rattle.wrap32.proofs.edge_detail.Goals as goal
 
 pub returns-then-x-odd : goal.returns-then-x-odd
 returns-then-x-odd c =
-    let s = c.before.before.before.before in
-    let f = s.ranges.x in
-    let x = s.args.x in
-    let two = simp to_z-of_z at c.before.before.before.wrapping_add-two.ensures in
-    let sign = simp to_z-of_z at c.before.signum.ensures in
+    let f = c.ranges.x in
+    let x = c.args.x in
+    let two = simp to_z-of_z at c.wrapping_add-two.ensures in
+    let sign = (simp to_z-of_z at c.signum.ensures.value) ∙ signum-is x in
     read_back
     (rw (read_back two (add_w-fits x x), read_back sign (sign_fits x)) at c.wrapping_add.ensures)
     (add_w-fits _ _)
-    ∙ edge-signed s.args.odd s.args.x (simp (to_z-of_z, odd-bit) at c.before.before.if-x-odd.true)
+    ∙ edge-signed c.args.odd x (simp (to_z-of_z, odd-bit) at c.if-x-odd.true)
 
 pub returns-else-x-odd : goal.returns-else-x-odd
 returns-else-x-odd c =

@@ -13,11 +13,11 @@ returns-then-a-eq0 c =
       still_ready = search rules;
     }
 
-pub returns-then-first-ne0 : goal.returns-then-first-ne0
-returns-then-first-ne0 c =
+pub returns-then-stops : goal.returns-then-stops
+returns-then-stops c =
     let g = c.args in
     record {
-      value = update-stopped g.packet.now (as_reader g.self) g.width (as_taken c.read-a.result) c.read-a.ensures.value c.if-a-eq0.false c.if-first-ne0.true;
+      value = update-stopped g.packet.now (as_reader g.self) g.width (as_taken c.read-a.result) c.read-a.ensures.value c.if-a-eq0.false (c.stops.ensures.0 c.if-stops.true);
       still_ready = search rules;
     }
 
@@ -25,6 +25,6 @@ pub returns : goal.returns
 returns c =
     let g = c.args in
     record {
-      value = c.width_second.ensures.value ∙ update-second g.packet.now (as_reader g.self) g.width (as_taken c.read-a.result) c.read-a.ensures.value c.if-a-eq0.false c.if-first-ne0.false;
+      value = c.width_second.ensures.value ∙ update-second g.packet.now (as_reader g.self) g.width (as_taken c.read-a.result) c.read-a.ensures.value c.if-a-eq0.false (c.stops.ensures.1 c.if-stops.false);
       still_ready = c.width_second.ensures.still_ready;
     }

@@ -8,12 +8,12 @@ use Rattle.format.proofs.UpdateLaws.{second-stopped, second-grown, second-shrunk
 use Rattle.bits.proofs.BitReader.width_second.Goals.{After-find-f, After-unary-u}
 use Rattle.bits.proofs.BitReader.width_second.Goals as goal
 
-pub returns-then-second-ne0 : goal.returns-then-second-ne0
-returns-then-second-ne0 c =
+pub returns-then-stops : goal.returns-then-stops
+returns-then-stops c =
     let g = c.args in
     let b = as_taken c.read-b.result in
     record {
-      value = second-stopped g.packet.now g.width b c.if-second-ne0.true ∙ ap (update_second g.packet.now g.width) c.read-b.ensures.value;
+      value = second-stopped g.packet.now g.width b (c.stops.ensures.0 c.if-stops.true) ∙ ap (update_second g.packet.now g.width) c.read-b.ensures.value;
       still_ready = search rules;
     }
 
@@ -23,7 +23,7 @@ returns-then-b-eq0 c =
     let x = u in
     let g = x.args in
     let b = as_taken x.read-b.result in record {
-      value = ap (grown g.width) u.unary-u.ensures.value ∙ second-grown g.packet.now g.width b u.if-second-ne0.false u.if-b-eq0.true
+      value = ap (grown g.width) u.unary-u.ensures.value ∙ second-grown g.packet.now g.width b (u.stops.ensures.1 u.if-stops.false) u.if-b-eq0.true
           ∙ ap (update_second g.packet.now g.width) x.read-b.ensures.value;
       still_ready = search rules;
     }
@@ -34,9 +34,9 @@ returns c =
     let x = f in
     let g = x.args in
     let b = as_taken x.read-b.result in
-    let same = f.find-f.ensures.value ∙ ap (find_of g.packet.now (as_reader x.read-b.result.reader)) f.less.ensures in record {
-      value = simp c.less-2.ensures (ap (shrunk g.width) same)
-          ∙ second-shrunk g.packet.now g.width b f.if-second-ne0.false f.if-b-eq0.false
+    let same = f.find-f.ensures.value ∙ ap (find_of g.packet.now (as_reader x.read-b.result.reader)) f.saturating_sub.ensures in record {
+      value = simp c.saturating_sub-2.ensures (ap (shrunk g.width) same)
+          ∙ second-shrunk g.packet.now g.width b (f.stops.ensures.1 f.if-stops.false) f.if-b-eq0.false
           ∙ ap (update_second g.packet.now g.width) x.read-b.ensures.value;
       still_ready = search rules;
     }
@@ -51,4 +51,4 @@ pub overflow_add-f : goal.overflow_add-f
 overflow_add-f c =
     let f = (goal.at.overflow_add-f c).After-find-f in
     let x = f in
-    omega (arith, f.find-f.ensures.ready_below.bound, f.less.ensures, x.requires.width_bound)
+    omega (arith, f.find-f.ensures.ready_below.bound, f.saturating_sub.ensures, x.requires.width_bound)

@@ -1,21 +1,15 @@
 -- `out_byte` meets its contract. Assumes nothing.
-use borrow.Author.Rules.{rules}
-use mathlib.Core.Path.{refl}
-use native.Mathlib.Omega.{arith}
-use native.Mathlib.Nat.{mod-lt}
-use Prim.Native.Nat.{◌-◌}
-use lib.Pow.{pow_pos}
-use lib.ListN.{length-set}
+use Rattle.std.proofs.Common.{◌≡◌, ℕ, ◌-◌, ◌*◌, ◌%◌, ◌^◌, refl, ap, ◌∙◌, arith, shl_exact, one-mul, lit<}
 use Rattle.encoding.proofs.Pushed.{byte-lt, wrote-out}
 use Rattle.encoding.proofs.BitWriter.out_byte.Goals as goal
 
-pub high_byte-requires : goal.high_byte-requires
-high_byte-requires c = let s = c.args.self in (omega arith, byte-lt s.cache s.held (omega arith) (search rules))
+pub overflow_cast-self : goal.overflow_cast-self
+overflow_cast-self c =
+    let s = c.args.self.now in
+    omega (arith, byte-lt s.cache s.held c.requires.0 c.requires.2)
 
-pub returns : goal.returns
-returns c =
-    let a = c.args in
-    record {
-      place = (refl, omega arith, rw c.low_bits.ensures (mod-lt a.self.cache (pow_pos (a.self.held - 8))), simp length-set);
-      wrote = λ old b. wrote-out old a.out.now b a.self _ _ (omega arith) (search rules) c.high_byte.ensures c.low_bits.ensures;
-    }
+pub returns-clause-wrote : goal.returns-clause-wrote
+returns-clause-wrote c old b h =
+    let s = c.args.self.now in
+    let e : 1 * 2 ^ (s.held - 8) % 2 ^ 64 ≡ 2 ^ (s.held - 8) = shl_exact {a = 1} 1 (s.held - 8) 64 (lit< tt) (omega arith) ∙ one-mul (2 ^ (s.held - 8)) in
+    wrote-out old s.out.now b s.place s.cache s.held _ _ c.requires.0 c.requires.3 refl (ap (λ (k : ℕ). s.cache % k) e) h

@@ -10,16 +10,16 @@ pub loop-index-init : goal.loop-index-init
 loop-index-init c =
     let s = c.args.stream.now in
     let g = c.args.group in
-    (each_none (entry_refusal s g), c.group_start-start.ensures.0 ∙ sym (start_none s g), omega arith, omega arith)
+    (each_none (entry_refusal s g), c.group_start-start.ensures.0 ∙ sym (start_none s g), omega arith)
 
-pub returns-then-stream-start : goal.returns-then-stream-start
-returns-then-stream-start c =
+pub returns-then-len-start : goal.returns-then-len-start
+returns-then-len-start c =
     let s = c.args.stream.now in
     let g = c.args.group in
     let l = c.loop-index in
     let long = length-read s g _ l.index _ c.block_at-at.ensures.0 c.entry_length-n.ensures.0 in
     refused (entry_refusal s g) l.index c.args.count 6 l.invariant.0
-    (seven s g l.index (rw (← l.invariant.1, ← long) c.if-stream-start.true))
+    (seven s g l.index (rw (← c.len.ensures, ← l.invariant.1, ← long) c.if-len-start.true))
     (omega arith)
 
 pub loop-index-preserved : goal.loop-index-preserved
@@ -28,32 +28,10 @@ loop-index-preserved c =
     let g = c.args.group in
     let l = c.loop-index in
     let long = length-read s g _ l.index _ c.block_at-at.ensures.0 c.entry_length-n.ensures.0 in (
-      each_on (entry_refusal s g) l.index l.invariant.0 (within s g l.index (rw (← l.invariant.1, ← long) c.if-stream-start.false)),
+      each_on (entry_refusal s g) l.index l.invariant.0 (within s g l.index (rw (← c.len.ensures, ← l.invariant.1, ← long) c.if-len-start.false)),
       rw (start-on s g l.index, ← l.invariant.1, ← long) refl,
-      omega arith,
       omega arith,
     )
 
 pub returns : goal.returns
 returns c = let same : c.loop-index.index ≡ c.args.count = omega arith in rw (sym same) (sym c.loop-index.invariant.0)
-
-pub block_at-at-requires : goal.block_at-at-requires
-block_at-at-requires c = omega arith
-
-pub group_start-start-requires : goal.group_start-start-requires
-group_start-start-requires c = omega arith
-
-pub entry_length-n-requires : goal.entry_length-n-requires
-entry_length-n-requires c = omega arith
-
-pub overflow_add-start : goal.overflow_add-start
-overflow_add-start c = omega arith
-
-pub overflow_add-start-in-loop-index : goal.overflow_add-start-in-loop-index
-overflow_add-start-in-loop-index c = omega arith
-
-pub overflow_add-index : goal.overflow_add-index
-overflow_add-index c = omega arith
-
-pub loop-index-smaller : goal.loop-index-smaller
-loop-index-smaller c = omega arith

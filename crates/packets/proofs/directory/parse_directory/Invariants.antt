@@ -1,11 +1,7 @@
 -- `packets::directory::parse_directory` meets its contract. Assumes nothing.
 use mathlib.Core.Path.{◌≡◌}
-use Prim.Native.Nat.{◌-◌, ◌≤◌}
 use Rattle.format.specs.Refusals.{each, group_refusal}
 use Rattle.packets.proofs.directory.parse_directory.Given as goal
 
 abbrev pub invariant-loop-group : goal.invariant-loop-group
-invariant-loop-group l = (each (group_refusal l.stream) l.group ≡ 0) × (l.group ≤ 5)
-
-abbrev pub decreases-loop-group : goal.decreases-loop-group
-decreases-loop-group l = 5 - l.group
+invariant-loop-group l = (each (group_refusal l.stream) l.group ≡ 0)

@@ -1,8 +1,6 @@
 -- `vectors::set_words` meets its contract: the first i numbers are words, the rest is as it was. Assumes nothing.
-use mathlib.Core.Path.{refl, ◌∙◌}
-use borrow.Author.Rules.{rules, sfits_of}
-use native.Mathlib.Omega.{arith}
-use lib.ListN.{length-set}
+use Rattle.std.proofs.Common.{arith, ◌∙◌}
+use borrow.Author.Rules.{sfits_of}
 use mir.Syntax.{w32}
 use mir.Val.{SFits}
 use mir.Facts.{to_z-of_z}
@@ -11,16 +9,16 @@ use Rattle.replay.specs.Numbers.{word_at}
 use Rattle.replay.proofs.vectors.set_words.Goals as goal
 
 pub loop-i-init : goal.loop-i-init
-loop-i-init c = (search rules, refl, fill_start _ _)
+loop-i-init c = fill_start _ _
 
 pub loop-i-preserved : goal.loop-i-preserved
 loop-i-preserved c =
     let at = c.loop-i in
     let a = c.args in
     let fits : SFits w32 c.number.result = sfits_of c.number.type_inv in
-    (search rules, simp length-set at.invariant.1, fill_step a.numbers.now at.numbers at.i (word_at a.b.now) _ at.invariant.2 (omega arith) (to_z-of_z fits ∙ c.number.ensures))
+    fill_step a.numbers.now at.numbers at.i (word_at a.b.now) _ at.invariant (omega arith) (to_z-of_z fits ∙ c.number.ensures)
 
 pub returns : goal.returns
 returns c =
     let a = c.args in
-    fill_done a.numbers.now _ c.loop-i.i _ (word_at a.b.now) c.loop-i.invariant.2 (omega arith) (omega arith)
+    fill_done a.numbers.now _ c.loop-i.i _ (word_at a.b.now) c.loop-i.invariant (omega arith) (omega arith)

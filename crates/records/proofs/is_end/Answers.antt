@@ -1,9 +1,0 @@
--- `records::is_end` meets its contract. Assumes nothing.
-use borrow.Author.Tests.{eq-eqb, ne_eqb}
-use Rattle.records.proofs.is_end.Goals as goal
-
-pub returns-then-i-eq0 : goal.returns-then-i-eq0
-returns-then-i-eq0 c = rw (eq-eqb _ _ c.if-i-eq0.true)
-
-pub returns-else-i-eq0 : goal.returns-else-i-eq0
-returns-else-i-eq0 c = rw (ne_eqb _ _ c.if-i-eq0.false)

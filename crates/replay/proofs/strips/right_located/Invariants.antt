@@ -1,9 +1,0 @@
--- `right_located` meets its contract. Assumes nothing.
-use Prim.Native.Nat.{◌-◌}
-use Rattle.replay.proofs.strips.right_located.Given as goal
-
-abbrev pub invariant-loop-i : goal.invariant-loop-i
-invariant-loop-i l = Unit
-
-abbrev pub decreases-loop-i : goal.decreases-loop-i
-decreases-loop-i l = 96 - l.i
