@@ -1,10 +1,10 @@
 // One record of a stream, for the rig: its byte length, its allowance, the bits that it took, and its coefficients.
 #![tactic(auto)]
 
-ghost use Rattle.std.specs.Prelude.{◌≡◌, cond, ◌++◌, ◌*◌, ◌^◌, ◌<◌, ◌≤◌, ltb, length, drop, Ok, Some};
+ghost use Rattle.std.specs.Prelude.{◌≡◌, cond, ◌++◌, ◌*◌, ◌^◌, ◌<◌, ◌≤◌, ltb, length, drop, Ok, Some, IfOk, is_some, true};
 ghost use Rattle.format.specs.Packets.{kind, payload_at};
 ghost use Rattle.format.specs.Coefficients.{record_of};
-ghost use Rattle.format.specs.Used.{nothing, of_record};
+ghost use Rattle.format.specs.Used.{nothing, of_record, has_record};
 ghost use Rattle.inspection.specs.Inspect.{told, InspectOutcome};
 
 use bits::allowance;
@@ -69,6 +69,7 @@ fn inspect_packet(
 ) -> Result<Option<Inspected>, Refusal>
     requires { (i < 2 ^ 16) × (m ≤ 8) × (cols < 2 ^ 16) }
     ensures value { told result ≡ cond (ltb (length band.old) (kind packet.now * m * cols)) (nothing 4) (of_record packet.now m cols i) }
+    ensures there { IfOk result (λ found. is_some found ≡ true) }
     ensures band_after { band.new ≡ cond (ltb (length band.old) (kind packet.now * m * cols)) band.old ((record_of packet.now m cols i).values ++ drop (kind packet.now * m * cols) band.old) }
 {
     if band.len() < packet.kind() * m * cols {
@@ -85,7 +86,8 @@ pub fn inspect_record(
     record: usize,
     band: &mut [i32],
 ) -> Result<Option<Inspected>, Refusal>
-    ensures { InspectOutcome stream.now number «record» band.old (told result) band.new }
+    ensures outcome { InspectOutcome stream.now number «record» band.old (told result) band.new }
+    ensures there { IfOk result (λ found. is_some found ≡ has_record stream.now number «record») }
 {
     check_stream(stream)?;
     if PACKETS <= number {

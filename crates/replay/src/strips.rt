@@ -43,7 +43,7 @@ fn right_fields(strip: &[u8], full_w: usize, full_h: usize, want: &[u8]) -> bool
 // Whether `find_streams` finds so many tiles, and has refusal 1 where there is none.
 fn right_located(strip: &[u8], full_w: usize, full_h: usize, count: usize, want: &[u8]) -> bool {
     match find_streams(strip, full_w, full_h) {
-        Ok(tiles) => tiles.len() == count && right_tiles(&tiles, want),
+        Ok(tiles) => 0 < count && tiles.len() == count && right_tiles(&tiles, want),
         Err(refusal) => count == 0 && refusal == Refusal::NoTile,
     }
 }
