@@ -1,16 +1,10 @@
 -- The next run of a slice. Assumes nothing.
-use Rattle.std.proofs.Common.{◌≡◌, sym, ap, ◌∙◌, List, ◌++◌, append_assoc, ℕ, ◌-◌, ◌≤◌, length, length-append, length-drop, take, drop, take_at, length-take-le, arith, take_all}
+use Rattle.std.proofs.Common.{◌≡◌, sym, ap, ◌∙◌, List, ◌++◌, append_assoc, ℕ, ◌-◌, ◌≤◌, length, length-append, length-drop, take, drop, take_at, length-take-le, arith}
 use Rattle.lists.proofs.Tab.{length_part}
 
 -- up to place p, and from there on
 pub first_part : {A : Type 0} (s : List A) (p : ℕ) → take (p - 0) s ≡ take p s
 first_part s p = let z : p - 0 ≡ p = omega arith in ap (λ (n : ℕ). take n s) z
-
-pub rest_part : {A : Type 0} (s : List A) (p : ℕ) → p ≤ length s → take (length s - p) (drop p s) ≡ drop p s
-rest_part s p h = take_all (length s - p) (drop p s) (omega (arith, length-drop p s))
-
-pub front_long : {A : Type 0} (s : List A) (p : ℕ) → p ≤ length s → length (take (p - 0) s) ≡ p
-front_long s p h = ap length (first_part s p) ∙ length-take-le p s h
 
 -- behind x
 pub put_on : (l ys x : List ℕ) (a e : ℕ) → a ≤ e → e ≤ length l → length ys ≡ length (take (e - a) (drop a l)) → take a l ≡ x → take e (take a l ++ (ys ++ drop (e - a) (drop a l))) ≡ x ++ ys

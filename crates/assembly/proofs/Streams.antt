@@ -14,7 +14,7 @@ use Rattle.format.proofs.TurnLaws.{sum_same, not_on, both-none, each-zero, each_
 use Rattle.encoding.proofs.Pushed.{number-zeros}
 use Rattle.encoding.proofs.Records.{sum-some}
 use Rattle.encoding.proofs.Finished.{packed-append, packed-rows}
-use Rattle.assembly.specs.Front.{Narrow, units_at, group_of, entry_of, block_of, front_of}
+use Rattle.assembly.specs.Front.{units_at, group_of, entry_of, block_of, front_of}
 use Rattle.assembly.specs.Tile.{Holds, group_in, colour_in, shape_in, numbers_in, units_in, refusal_in, packet_bits_in, Short}
 use Rattle.assembly.proofs.Held.{units-held, refusal-held, packet-held}
 use Rattle.assembly.proofs.Places.{present-in}
@@ -127,17 +127,7 @@ module _ (w H : ℕ) (v : Coefs) (work : List ℤ) (h : Holds w H v work) where
         ∙ regroup a (number_bits 32 0) c d m n sizes z blocks packets
         ∙ ap (λ (x : List ℕ). (a ++ (x ++ (c ++ (d ++ (m ++ (n ++ (sizes ++ z))))))) ++ (blocks ++ packets)) (number-zeros 32)
 
-    -- where no length is too large, the sizes fit their fields
-    pub sizes-narrow : lengths_refusal w H v ≡ 0 → Narrow u
-    unfolding lengths_refusal
-    sizes-narrow r =
-        record {
-          group = λ g a.
-              let n = (both-none (each (λ g. each (checked g) (entries (numbered g))) 5) (each (λ g. on (ltb 268435440 (16 * group_units w H v g)) 26) 5) r).1 in
-              omega (arith, group-is g a, ltb-false 268435440 (16 * group_units w H v g) (not_on _ 25 (each-zero (λ g. on (ltb 268435440 (16 * group_units w H v g)) 26) g 5 n a)));
-        }
-
-  -- and each packet's records theirs
+  -- where no length is too large, each packet's records fit their fields
   pub records-short : lengths_refusal w H v ≡ 0 → (p : ℕ) → p < 13 → refusal_in w H work p ≡ 0
   unfolding lengths_refusal
   records-short r p l = each-zero (refusal_in w H work) p 13 (records-refusal ∙ (both-none (each (λ g. each (checked g) (entries (numbered g))) 5) (each (λ g. on (ltb 268435440 (16 * group_units w H v g)) 26) 5) r).0) l

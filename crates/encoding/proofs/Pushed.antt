@@ -1,5 +1,6 @@
 -- Laws of the bits that a word holds: more of them, and the first eight out. Assumes nothing.
-use Rattle.std.proofs.Common.{◌≡◌, refl, sym, ap, ◌∙◌, List, [], ◌∷◌, ◌++◌, append-nil, append_assoc, ⊎_elim, ℕ, zero, suc, ◌+◌, ◌-◌, ◌*◌, ◌/◌, ◌%◌, ◌^◌, ◌≤◌, ◌<◌, pow-suc, mul-le-mul_right, mod-lt, mod-eq_of_lt, mul_assoc, add-one, arith, length, get_or, set, drop, length-append, get_or-append-add, get_or-set_same, get_or-set_other, drop-set-lt, drop-drop, pow-add, pow_mono, shr-shr, pow_pos, shr_lt, lt-ltb, le-ltb, eq-eqb, ne_eqb}
+use Rattle.std.proofs.Common.{◌≡◌, refl, sym, ap, ◌∙◌, List, [], ◌∷◌, ◌++◌, append-nil, append_assoc, ⊎_elim, ℕ, zero, suc, ◌+◌, ◌-◌, ◌*◌, ◌/◌, ◌%◌, ◌^◌, ◌≤◌, ◌<◌}
+use Rattle.std.proofs.Common.{pow-suc, mul-le-mul_right, mod-lt, mod-eq_of_lt, mul_assoc, add-one, arith, length, get_or, set, drop, length-append, get_or-append-add, get_or-set_same, get_or-set_other, drop-set-lt, drop-drop, pow-add, pow_mono, shr-shr, pow_pos, shr_lt, lt-ltb, le-ltb, eq-eqb, ne_eqb}
 use Rattle.std.proofs.Math.ListN.{get_or-append, replicate-append-replicate}
 use Rattle.std.proofs.Math.Pow.{pow-lt, high, low, field, mod-mod-pow}
 use Rattle.format.specs.Bits.{bit_at}

@@ -1,5 +1,6 @@
 -- Laws of a record's numbers in a list. Assumes nothing.
-use Rattle.std.proofs.Common.{◌≡◌, refl, sym, ap, ◌∙◌, List, [], ◌++◌, Bool, true, false, cond, ⊎_elim, ◌⊎◌, inl, inr, ℕ, zero, suc, ◌+◌, ◌-◌, ◌*◌, ◌/◌, ◌%◌, ◌≤◌, ◌<◌, mul-le-mul_right, eq-or-lt_of_le, le_of_suc-le-suc, arith, ℤ, pos, negsuc, nat_abs, length, get_or, take, drop, length-append, length-take, eqb, ltb, eq-eqb, ne_eqb, ltb-true}
+use Rattle.std.proofs.Common.{◌≡◌, refl, sym, ap, ◌∙◌, List, [], ◌++◌, Bool, true, false, cond, ⊎_elim, ◌⊎◌, inl, inr, ℕ, zero, suc, ◌+◌, ◌-◌, ◌*◌}
+use Rattle.std.proofs.Common.{◌/◌, ◌%◌, ◌≤◌, ◌<◌, mul-le-mul_right, eq-or-lt_of_le, le_of_suc-le-suc, arith, ℤ, pos, negsuc, nat_abs, length, get_or, take, drop, length-append, length-take, eqb, ltb, eq-eqb, ne_eqb, ltb-true}
 use Rattle.std.proofs.Math.ListN.{length-replicate, get_or-eq_default}
 use Rattle.std.specs.Bool.{MatchBool}
 use Rattle.std.specs.List.{AllWithin, HoldsAt}
@@ -144,10 +145,6 @@ module _ {A : Type 0} (g : ℕ → List A) where
       by (inr k) h = omega (arith, length-append (rows n g) (g n), h k)
 
 -- ---- filled up to whole bytes
-pub filled_none : filled 8 [] ≡ []
-unfolding filled
-filled_none = refl
-
 pub length-filled : (b : List ℕ) → length (filled 8 b) ≡ 8 * units 8 b
 unfolding filled
 length-filled b = length-append b (zero_bits (units 8 b * 8 - length b)) ∙ omega (arith, length-replicate {A = ℕ} (units 8 b * 8 - length b) 0)

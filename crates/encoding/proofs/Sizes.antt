@@ -1,8 +1,7 @@
 -- The sign of a number. Assumes nothing.
-use Rattle.std.proofs.Common.{◌≡◌, refl, sym, ap, ◌∙◌, zero, suc, ℤ, pos, negsuc, of_z, to_z, to_z-of_z, w32, SFits, [], le-ltb, arith, w64, true, true≢false, ltb-true}
+use Rattle.std.proofs.Common.{◌≡◌, refl, sym, ap, ◌∙◌, zero, suc, ℤ, pos, negsuc, of_z, to_z, to_z-of_z, w32, SFits, [], le-ltb, arith}
 use lib.Signed.{lt_z}
 use mir.Val.{bool_byte}
-use Rattle.wrap32.proofs.Laws.{wide}
 use Rattle.format.specs.Writing.{number_bits, sign_bits}
 
 pub sign-some : (z : ℤ) → (of_z w32 z ≡ 0 → ⊥) → number_bits 1 (bool_byte (lt_z z (pos 0))) ≡ sign_bits z
@@ -11,15 +10,5 @@ sign-some (pos zero) h = absurd (h refl)
 sign-some (pos (suc n)) h = rw (le-ltb (suc n) 0 (omega arith)) refl
 sign-some (negsuc n) h = refl
 
-pub sign_pos : (z : ℤ) → lt_z (pos 0) z ≡ true → number_bits 1 0 ≡ sign_bits z
-unfolding number_bits
-sign_pos (pos zero) e = absurd (omega (arith, ltb-true 0 0 e))
-sign_pos (pos (suc n)) e = refl
-sign_pos (negsuc n) e = absurd (true≢false (sym e))
-
 pub sign-none : (z : ℤ) → SFits w32 z → of_z w32 z ≡ 0 → [] ≡ sign_bits z
 sign-none z f h = let e : z ≡ pos 0 = sym (to_z-of_z f) ∙ ap (to_z w32) h in rw e refl
-
--- widened, and read back
-pub wide_back : (z : ℤ) → SFits w32 z → to_z w64 (of_z w64 (to_z w32 (of_z w32 z))) ≡ z
-wide_back z f = rw (to_z-of_z f, to_z-of_z (wide f)) refl
