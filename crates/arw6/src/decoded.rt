@@ -9,7 +9,7 @@ use tile::Decoded as Tile;
 // A refusal with every other field 0, or 0 with the coded size, the rows of the planes, how many records stopped, being broken or spent, and
 // the bits that the records took.
 #[repr(C)]
-#[derive(Clone, Copy)]
+#[derive(Clone, Copy, Default)]
 pub struct Decoded {
     pub refusal: u64,
     pub width: u64,
@@ -37,14 +37,8 @@ impl From<Result<Tile, Refusal>> for Decoded {
                 bits: tile.bits,
             },
             Err(refusal) => Decoded {
-                refusal: refusal.number(),
-                width: 0,
-                height: 0,
-                rows: 0,
-                stopped: 0,
-                broken: 0,
-                spent: 0,
-                bits: 0,
+                refusal: u64::from(refusal),
+                ..Decoded::default()
             },
         }
     }

@@ -10,7 +10,7 @@ use refusals::Refusal;
 // A refusal, or 0 for a record that isn't there, with every other field 0; or the byte length of a record, its allowance, the bits that it took,
 // and 1 where it is broken or spent.
 #[repr(C)]
-#[derive(Clone, Copy)]
+#[derive(Clone, Copy, Default)]
 pub struct Inspected {
     pub refusal: u64,
     pub bytes: u64,
@@ -27,11 +27,7 @@ impl Inspected {
     {
         Inspected {
             refusal,
-            bytes: 0,
-            allowance: 0,
-            bits: 0,
-            broken: 0,
-            spent: 0,
+            ..Inspected::default()
         }
     }
 }
@@ -50,7 +46,7 @@ impl From<Result<Option<Known>, Refusal>> for Inspected {
                 spent: known.counts.spent,
             },
             Ok(None) => Inspected::nothing(0),
-            Err(refusal) => Inspected::nothing(refusal.number()),
+            Err(refusal) => Inspected::nothing(u64::from(refusal)),
         }
     }
 }

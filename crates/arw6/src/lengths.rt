@@ -8,7 +8,7 @@ use refusals::Refusal;
 
 // A refusal with every other field 0, or 0 with the coded size, the rows of the planes and the numbers of each slice.
 #[repr(C)]
-#[derive(Clone, Copy)]
+#[derive(Clone, Copy, Default)]
 pub struct Lengths {
     pub refusal: u64,
     pub width: u64,
@@ -27,8 +27,8 @@ impl From<Result<Needed, Refusal>> for Lengths {
         match answer {
             Ok(need) => Lengths {
                 refusal: 0,
-                width: need.width as u64,
-                height: need.height as u64,
+                width: need.size.width as u64,
+                height: need.size.height as u64,
                 rows: need.rows as u64,
                 green: need.green as u64,
                 red: need.red as u64,
@@ -36,14 +36,8 @@ impl From<Result<Needed, Refusal>> for Lengths {
                 work: need.work as u64,
             },
             Err(refusal) => Lengths {
-                refusal: refusal.number(),
-                width: 0,
-                height: 0,
-                rows: 0,
-                green: 0,
-                red: 0,
-                blue: 0,
-                work: 0,
+                refusal: u64::from(refusal),
+                ..Lengths::default()
             },
         }
     }

@@ -23,7 +23,7 @@ impl From<Result<usize, Refusal>> for Written {
                 length: length as u64,
             },
             Err(refusal) => Written {
-                refusal: refusal.number(),
+                refusal: u64::from(refusal),
                 length: 0,
             },
         }

@@ -1,6 +1,9 @@
 -- Laws of the header and the directory: lengths of their parts, and numbers that fit. Assumes nothing.
-use Rattle.std.proofs.Common.{◌≡◌, refl, ap, ◌∙◌, List, [], ◌++◌, append_assoc, ℕ, zero, suc, ◌+◌, ◌*◌, ◌^◌, ◌≤◌, ◌<◌, arith, length, get_or, length-append, ltb, ltb-true, ltb-false}
+use Rattle.std.proofs.Common.{◌≡◌, refl, ap, ◌∙◌, List, [], ◌++◌, append_assoc, ℕ, zero, suc, ◌+◌, ◌*◌, ◌^◌, ◌≤◌, ◌<◌, arith, length, length-drop, get_or, get_or-drop, take, drop, sym, length-append, ltb, ltb-true, ltb-false}
 use Rattle.std.proofs.Math.ListN.{length-replicate}
+use Rattle.std.proofs.lemmas.List.Sums.{sum_by_more}
+use Rattle.format.specs.Packets.{sum}
+use Rattle.std.specs.List.{sum_by}
 use Rattle.wrap32.proofs.Laws.{of-cond}
 use Rattle.lists.specs.Lists.{rows}
 use Rattle.lists.proofs.Rows.{length-rows}
@@ -8,11 +11,10 @@ use Rattle.format.specs.Refusals.{on, each}
 use Rattle.format.specs.Sizes.{numbered}
 use Rattle.format.specs.Writing.{number_bits, zero_bits, entries, packed}
 use Rattle.format.proofs.TurnLaws.{not_on, each-zero}
-use Rattle.encoding.proofs.Widths.{length-number}
-use Rattle.encoding.specs.Wrote.{Fresh, Appends}
-use Rattle.encoding.specs.declared.BitWriter.{BitWriter}
-use Rattle.encoding.proofs.Pushed.{number-join, number-zeros}
-use Rattle.encoding.proofs.Finished.{wrote-all, fresh-wrote}
+use Rattle.codes.proofs.Pushed.{length-number, number-join, number-zeros}
+use Rattle.codes.specs.Wrote.{Fresh, Appends}
+use Rattle.codes.specs.declared.BitWriter.{BitWriter}
+use Rattle.codes.proofs.Finished.{wrote-all, fresh-wrote}
 use Rattle.encoding.proofs.Records.{sum-some}
 use Rattle.assembly.specs.Front.{Narrow, units_at, group_of, entry_of, block_of, sizes_of, blocks_of, named_of, front_of}
 
@@ -30,6 +32,21 @@ entries-one (suc zero) h = absurd (omega arith)
 entries-one (suc (suc zero)) h = absurd (omega arith)
 entries-one (suc (suc (suc zero))) h = absurd (omega arith)
 entries-one (suc (suc (suc (suc g)))) h = refl
+
+-- ---- sums of units
+-- numbers that follow one another in a list
+pub sum-part : (u : List ℕ) (a n : ℕ) → a + n ≤ length u → sum_by (λ x. x) (take n (drop a u)) ≡ sum (λ k. get_or u (a + k) 0) n
+unfolding sum
+sum-part u a zero h = refl
+sum-part u a (suc n) h =
+    let e : n + 1 ≡ suc n = omega arith in
+    ap (λ (k : ℕ). sum_by (λ x. x) (take k (drop a u))) (sym e) ∙ sum_by_more (λ x. x) (drop a u) n 0 (omega (arith, length-drop a u))
+    ∙ (λ i. sum-part u a n (omega arith) i + get_or-drop a u n 0 i)
+
+pub sum-most : (f : ℕ → ℕ) (m n : ℕ) → ((k : ℕ) → f k ≤ m) → sum f n ≤ n * m
+unfolding sum
+sum-most f m zero h = omega arith
+sum-most f m (suc n) h = omega (arith, sum-most f m n h, h n)
 
 -- an entry is no longer than its group
 pub entry-narrow : (u : List ℕ) (g k : ℕ) → Narrow u → g < 5 → entry_of u g k < 2 ^ 24

@@ -10,7 +10,7 @@ use Rattle.format.specs.Coefficients.{Coefs}
 use Rattle.format.specs.Numbers.{component_at, row_at, in_turn, packet_rows, packet_numbers}
 use Rattle.format.specs.Writing.{units, filled, records, head_units, record_bits, whole_record, record_bytes, record_head, payload_units, packet_head, packet_bits, packet_units}
 use Rattle.format.proofs.PlaceLaws.{read-flat}
-use Rattle.encoding.specs.Wrote.{line}
+use Rattle.encoding.specs.Numbers.{line}
 use Rattle.encoding.proofs.Records.{record-in}
 use Rattle.format.proofs.TurnLaws.{sum_same, each_same}
 use Rattle.assembly.specs.Packet.{head_units_of, open_bits, head_of, numbers_at, bits_of, bytes_of, payload_of, units_of, long_refusal, heads_of, records_of, bits_in}

@@ -6,4 +6,3 @@ pub mod Places
 pub mod Fronts
 pub mod Streams
 pub mod Mild
-pub mod Checks

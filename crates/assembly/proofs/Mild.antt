@@ -7,7 +7,7 @@ use Rattle.format.specs.Coefficients.{Coefs}
 use Rattle.format.specs.Numbers.{packet_rows, packet_numbers}
 use Rattle.format.specs.Writing.{records}
 use Rattle.format.proofs.BitLaws.{le-or-lt}
-use Rattle.encoding.specs.Wrote.{Small, line}
+use Rattle.encoding.specs.Numbers.{Small, line}
 use Rattle.assembly.specs.Tile.{packet_in, Holds}
 use Rattle.assembly.proofs.Held.{length-numbers, numbers-at}
 

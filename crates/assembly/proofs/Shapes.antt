@@ -5,9 +5,8 @@ use Rattle.format.specs.Refusals.{◌▷◌, on, each}
 use Rattle.format.specs.Writing.{number_bits, zero_bits}
 use Rattle.format.proofs.TurnLaws.{one, not_on, each-zero}
 use Rattle.encoding.specs.Record.{record_in}
-use Rattle.encoding.proofs.Widths.{length-number}
-use Rattle.encoding.proofs.Pushed.{number-join, number-zeros}
-use Rattle.encoding.specs.Wrote.{Small, line}
+use Rattle.codes.proofs.Pushed.{length-number, number-join, number-zeros}
+use Rattle.encoding.specs.Numbers.{Small, line}
 use Rattle.encoding.proofs.Records.{row_fits, part_small}
 use Rattle.lists.proofs.Tab.{length_part}
 use Rattle.assembly.specs.Packet.{Sound, head_units_of, open_bits, head_of, numbers_at, bits_of, bytes_of, long_refusal}

@@ -1,6 +1,7 @@
 -- What is read off a work slice that holds the coefficients v is the stream's of v. Assumes nothing.
-use Rattle.std.proofs.Common.{◌≡◌, refl, sym, ap, ◌∙◌, List, ◌++◌, append_assoc, Bool, true, false, cond, ⊎_elim, ℕ, zero, suc, ◌+◌, ◌*◌, ◌/◌, ◌%◌, ◌^◌, ◌≤◌, ◌<◌, arith, ℤ, length, get_or, ltb, ltb-true, ltb-false}
+use Rattle.std.proofs.Common.{◌≡◌, refl, sym, ap, ◌∙◌, List, ◌++◌, append_assoc, Bool, true, false, cond, ⊎_elim, ℕ, zero, suc, ◌+◌, ◌*◌, ◌/◌, ◌%◌, ◌^◌, ◌≤◌, ◌<◌, arith, ℤ, length, get_or, take_all, ltb, ltb-true, ltb-false}
 use Rattle.std.proofs.Math.ListN.{get_or-eq_default}
+use Rattle.std.specs.List.{sum_by}
 use Rattle.lists.specs.Lists.{tab, rows}
 use Rattle.lists.proofs.Tab.{get_or-tab, length-tab, tab-same}
 use Rattle.lists.proofs.Rows.{rows_same}
@@ -11,14 +12,14 @@ use Rattle.format.specs.Sizes.{numbered, indexed}
 use Rattle.format.specs.Writing.{number_bits, zero_bits, entries, records, record_bytes, packet_bits, packet_units, group_bits, group_units, entry_units, block_bits, header_bits, stream_bits, stream_length, lengths_refusal, packed, stream_of}
 use Rattle.format.proofs.BitLaws.{le-or-lt}
 use Rattle.format.proofs.TurnLaws.{sum_same, not_on, both-none, each-zero, each_same}
-use Rattle.encoding.proofs.Pushed.{number-zeros}
+use Rattle.codes.proofs.Pushed.{number-zeros}
 use Rattle.encoding.proofs.Records.{sum-some}
-use Rattle.encoding.proofs.Finished.{packed-append, packed-rows}
+use Rattle.codes.proofs.Finished.{packed-append, packed-rows}
 use Rattle.assembly.specs.Front.{units_at, group_of, entry_of, block_of, front_of}
 use Rattle.assembly.specs.Tile.{Holds, group_in, colour_in, shape_in, numbers_in, units_in, refusal_in, packet_bits_in, Short}
 use Rattle.assembly.proofs.Held.{units-held, refusal-held, packet-held}
 use Rattle.assembly.proofs.Places.{present-in}
-use Rattle.assembly.proofs.Fronts.{entries-three, entries-one, length_front}
+use Rattle.assembly.proofs.Fronts.{sum-part, sum-most, entries-three, entries-one, length_front}
 use Rattle.assembly.proofs.Whole.{whole-bits}
 
 -- packet k of group g is one of the 13
@@ -143,6 +144,21 @@ entry_in p h =
 all-sums : (f : ℕ → ℕ → ℕ) → sum (λ p. f (p / 3) (p % 3)) 13 ≡ sum (λ g. sum (f g) (entries (numbered g))) 5
 unfolding sum
 all-sums f = omega arith
+
+-- the units of all
+units-sum : (u : List ℕ) → length u ≡ 13 → sum_by (λ x. x) u ≡ sum (λ p. get_or u p 0) 13
+unfolding sum
+units-sum u long = ap (sum_by (λ x. x)) (sym (take_all 13 u (omega (arith, long)))) ∙ sum-part u 0 13 (omega (arith, long))
+
+pub units-most : (u : List ℕ) → length u ≡ 13 → ((p : ℕ) → get_or u p 0 < 2 ^ 48) → sum_by (λ x. x) u ≤ 13 * 2 ^ 48
+units-most u long small = omega (arith, units-sum u long, sum-most (λ p. get_or u p 0) (2 ^ 48) 13 (λ p. omega (arith, small p)))
+
+pub units-all : (u : List ℕ) → length u ≡ 13 → sum_by (λ x. x) u ≡ sum (group_of u) 5
+unfolding group_of
+units-all u long = units-sum u long ∙ sum_same _ _ 13 at ∙ all-sums (units_at u)
+  where
+    at : (p : ℕ) → p < 13 → get_or u p 0 ≡ units_at u (p / 3) (p % 3)
+    at p l = let e : p ≡ 3 * (p / 3) + p % 3 = omega arith in ap (λ (k : ℕ). get_or u k 0) e
 
 whole_in : (w H : ℕ) (work : List ℤ) (p : ℕ) → length (packet_bits_in w H work p) % 8 ≡ 0
 unfolding packet_bits_in

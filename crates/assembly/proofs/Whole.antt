@@ -5,12 +5,12 @@ use Rattle.lists.specs.Lists.{rows}
 use Rattle.lists.proofs.Rows.{length-rows}
 use Rattle.format.specs.Packets.{sum}
 use Rattle.format.specs.Writing.{zero_bits, units, filled, packed}
-use Rattle.encoding.specs.Wrote.{Wrote, Fresh, Room, Appends}
-use Rattle.encoding.proofs.Widths.{length-number}
-use Rattle.encoding.specs.Laws.{room_after}
-use Rattle.encoding.specs.declared.BitWriter.{BitWriter}
+use Rattle.codes.specs.Wrote.{Wrote, Fresh, Room, Appends}
+use Rattle.codes.proofs.Pushed.{length-number}
+use Rattle.codes.proofs.Laws.{room_after}
+use Rattle.codes.specs.declared.BitWriter.{BitWriter}
 use Rattle.encoding.proofs.Records.{length-filled}
-use Rattle.encoding.proofs.Finished.{packed-append, fresh-wrote, fresh-room}
+use Rattle.codes.proofs.Finished.{packed-append, fresh-wrote, fresh-room}
 use Rattle.assembly.specs.Packet.{head_units_of, open_bits, head_of, bits_of, bytes_of, payload_of, heads_of, records_of, bits_in}
 use Rattle.assembly.specs.declared.packet.Shape.{Shape}
 use Rattle.assembly.proofs.Shapes.{open-bits, length-head}

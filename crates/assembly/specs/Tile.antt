@@ -1,13 +1,16 @@
 -- Where the packets of a tile of coded size w, H stand in the work slice when they are written, and what is known of them there.
 use Rattle.std.specs.Prelude.{◌≡◌, true, List, ℕ, ◌+◌, ◌*◌, ◌/◌, ◌%◌, ◌^◌, ◌≤◌, ◌<◌, ℤ, length}
 use Rattle.lists.specs.Lists.{tab, part}
+use Rattle.format.specs.Packets.{sum}
 use Rattle.format.specs.Sizes.{Colour, index, l1, l2, l3, Group, base, detail, final, present, multiplier, components, columns, numbered, indexed}
 use Rattle.format.specs.Coefficients.{Coefs}
 use Rattle.format.specs.Numbers.{packet_rows, packet_numbers}
 use Rattle.format.specs.Writing.{records, packet_units, lengths_refusal, stream_length}
-use Rattle.encoding.specs.Wrote.{Small, line}
+use Rattle.encoding.specs.Numbers.{Small, line}
 use Rattle.assembly.specs.declared.front.Sizes.{Sizes}
+use Rattle.assembly.specs.declared.front.Units.{Units}
 use Rattle.assembly.specs.declared.packet.Shape.{Shape}
+use Rattle.assembly.specs.Front.{group_of}
 use Rattle.assembly.specs.Packet.{units_of, long_refusal, bits_in}
 
 -- a tile has 256 units of so many numbers: 64 for each index, groups 0 to 3 one after the other, and 64 for group 4
@@ -70,6 +73,11 @@ module _ (w H : ℕ) (work : List ℤ) (p : ℕ) where
 pub record Short (w H : ℕ) (work : List ℤ) : Type 0 where
   pub records : (p : ℕ) → p < 13 → refusal_in w H work p ≡ 0
   pub units : (p : ℕ) → p < 13 → units_in w H work p < 2 ^ 24
+
+-- what is counted of the coefficients v, whether they pass or not: the units of their packets, and the length that a stream of these has
+pub record Counted (w H : ℕ) (v : Coefs) (u : Units) : Type 0 where
+  pub units : u.each ≡ tab 13 (λ p. packet_units w H v (group_in p) (colour_in p))
+  pub long : 128 + 16 * sum (group_of u.each) 5 ≡ stream_length w H v
 
 -- what is measured of the coefficients v
 pub record Measured (w H : ℕ) (v : Coefs) (r : Sizes) : Type 0 where

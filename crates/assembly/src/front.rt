@@ -3,19 +3,20 @@ ghost use Rattle.std.specs.Prelude.{◌≡◌, ℕ, ◌+◌, ◌*◌, ◌^◌, �
 ghost use Rattle.format.specs.Packets.{sum};
 ghost use Rattle.format.specs.Refusals.{on, each};
 ghost use Rattle.format.specs.Sizes.{numbered};
-ghost use Rattle.format.specs.Writing.{entries, packed, zero_bits};
+ghost use Rattle.format.specs.Writing.{entries, packed};
 ghost use Rattle.refusals.specs.Number.{code_of};
-ghost use Rattle.encoding.specs.Wrote.{Room, Appends};
+ghost use Rattle.codes.specs.Wrote.{Room, Appends};
 ghost use Rattle.assembly.specs.Front.{Narrow, group_of, entry_of, block_of, sizes_of, blocks_of, named_of, front_of};
 
 use crate::packet::within;
-use encoding::{BitWriter, Code, Sink};
+use codes::{BitWriter, Code};
 use refusals::Refusal;
 
 // The most bytes of a group.
 const MOST: u64 = 268_435_440;
 
-// The packets of a group.
+// The packets of a group. The directory numbers its groups, 0 to 4: a group is its number here, below 5, as one reckons with it (its first packet is
+// 3 * group).
 fn entries(group: usize) -> usize
     ensures { (result ≡ entries (numbered group)) × (1 ≤ result) × (result ≤ 3) × (group < 5 → 3 * group + result ≤ 13) }
 {
@@ -36,22 +37,22 @@ impl Units {
         requires { group < 5 }
         ensures { (result ≡ group_of self.now.each group) × (result ≤ 2 ^ 50) }
     {
-        let mut total = 0;
-        for k in 0..entries(group) {
-            total += self.each[3 * group + k];
-        }
-        total
+        let a = 3 * group;
+        self.each[a..a + entries(group)].iter().sum()
     }
 
     // The units of the stream's packets.
     pub fn all(&self) -> u64
         ensures { (result ≡ sum (group_of self.now.each) 5) × (result ≤ 2 ^ 53) }
     {
-        let mut total = 0;
-        for g in 0..5 {
-            total += self.group(g);
-        }
-        total
+        self.each.iter().sum()
+    }
+
+    // The bytes of a stream of such packets.
+    pub fn length(&self) -> u64
+        ensures { (result ≡ 128 + 16 * sum (group_of self.now.each) 5) × (result ≤ 2 ^ 58) }
+    {
+        128 + 16 * self.all()
     }
 
     // Whether no group is too long.
@@ -117,7 +118,7 @@ impl Sizes {
         }
     }
 
-    // Writes the header and the directory over the whole of `out`.
+    // Writes the header and the directory over the whole of `out`: 17 bytes of zeros stand between the group sizes and the directory.
     pub fn put_front(&self, out: &mut [u8], w: usize, h: usize)
         requires { (w < 2 ^ 16) × (h < 2 ^ 16) × (length out.old ≡ 128) }
         ensures { out.new ≡ packed (front_of w h self.now.units.each) }
@@ -125,7 +126,7 @@ impl Sizes {
         let mut b = BitWriter::new(out);
         put_named(&mut b, w, h);
         self.put_sizes(&mut b);
-        put_zeros(&mut b);
+        b.put_zeros(17);
         self.put_blocks(&mut b);
     }
 }
@@ -141,14 +142,4 @@ fn put_named(b: &mut BitWriter, w: usize, h: usize)
     b.put(Code::new(16, (h / 2) as u64));
     b.put(Code::new(16, 0x0100));
     b.put(Code::new(16, 0x6C00));
-}
-
-// Writes the 17 bytes of zeros between the group sizes and the directory.
-fn put_zeros(b: &mut BitWriter)
-    requires { Room b.old 136 }
-    ensures { Appends b.old b.new (zero_bits 136) }
-{
-    b.put(Code::zeros(56));
-    b.put(Code::zeros(56));
-    b.put(Code::zeros(24));
 }

@@ -8,18 +8,19 @@ ghost use Rattle.format.specs.Refusals.{each};
 ghost use Rattle.format.specs.Coefficients.{Coefs};
 ghost use Rattle.format.specs.Writing.{packed, lengths_refusal, stream_of};
 ghost use Rattle.refusals.specs.Number.{code_of};
-ghost use Rattle.assembly.specs.Tile.{Tile, Holds, shape_in, numbers_in, units_in, refusal_in, packet_bits_in, Short, Measured, Ready};
+ghost use Rattle.assembly.specs.Tile.{Tile, Holds, shape_in, numbers_in, units_in, refusal_in, packet_bits_in, Short, Counted, Measured, Ready};
 
 mod front;
 mod packet;
 mod place;
 
+use fields::Size;
 pub use front::{Sizes, Units};
 use packet::Packet;
 use place::locate;
 use refusals::Refusal;
 
-// The coefficients of a tile of coded size w, h, in its work slice.
+// The coefficients of a tile of coded size w, h, in its work slice. The two are no `Size`, since each clause has them, and would say `size.width`.
 #[derive(Clone, Copy)]
 pub struct Work<'a> {
     pub numbers: &'a [i32],
@@ -34,23 +35,32 @@ impl<'a> Work<'a> {
         requires { p < 13 }
         ensures { (result.shape ≡ shape_in self.entry.w self.entry.h p) × (result.numbers.now ≡ numbers_in self.entry.w self.entry.h self.entry.numbers.now p) }
     {
-        let l = locate(self.w, self.h, p);
+        let size = Size {
+            width: self.w,
+            height: self.h,
+        };
+        let l = locate(size, p);
         Packet {
-            numbers: &self.numbers[l.start..l.end],
+            numbers: &self.numbers[l.range],
             shape: l.shape,
         }
     }
 
-    // The units of all, or the first refusal.
-    fn measure_all(self) -> Result<Units, Refusal>
-        ensures refusal { code_of result ≡ each (refusal_in self.entry.w self.entry.h self.entry.numbers.now) 13 }
-        ensures units { IfOk result (λ u. u.each ≡ tab 13 (units_in self.entry.w self.entry.h self.entry.numbers.now)) }
+    // The units of all packets, whether they pass or not; and the first refusal of a record.
+    // An array, since there is no heap; it is filled by index, as p names the packet too, here and in `put_packets`.
+    pub fn units(self) -> (Units, Result<(), Refusal>)
+        ensures units { result.0.each ≡ tab 13 (units_in self.entry.w self.entry.h self.entry.numbers.now) }
+        ensures refusal { code_of result.1 ≡ each (refusal_in self.entry.w self.entry.h self.entry.numbers.now) 13 }
+        ensures sizes { (v : Coefs) → Holds self.entry.w self.entry.h v self.entry.numbers.now → Counted self.entry.w self.entry.h v result.0 }
     {
         let mut each = [0u64; 13];
+        let mut passes = Ok(());
         for p in 0..13 {
-            each[p] = self.packet(p).measure()?;
+            let (units, records) = self.packet(p).measure();
+            each[p] = units;
+            passes = passes.and(records);
         }
-        Ok(Units { each })
+        (Units { each }, passes)
     }
 
     // Measures the stream.
@@ -58,11 +68,12 @@ impl<'a> Work<'a> {
         ensures refusal { (v : Coefs) → Holds self.entry.w self.entry.h v self.entry.numbers.now → code_of result ≡ lengths_refusal self.entry.w self.entry.h v }
         ensures sizes { (v : Coefs) → Holds self.entry.w self.entry.h v self.entry.numbers.now → IfOk result (Measured self.entry.w self.entry.h v) }
     {
-        let units = self.measure_all()?;
+        let (units, records) = self.units();
+        records?;
         units.check()?;
         Ok(Sizes {
             units,
-            length: 128 + 16 * units.all(),
+            length: units.length(),
         })
     }
 

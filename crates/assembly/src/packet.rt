@@ -1,12 +1,15 @@
 // A packet, from the list of its numbers: its header, record headers, and records.
-ghost use Rattle.std.specs.Prelude.{◌≡◌, ◌+◌, ◌*◌, ◌^◌, ◌<◌, ◌≤◌, length, ltb, IfOk};
+ghost use Rattle.std.specs.Prelude.{◌≡◌, ◌+◌, ◌*◌, ◌^◌, ◌<◌, ◌≤◌, length, ltb};
 ghost use Rattle.format.specs.Refusals.{on};
 ghost use Rattle.format.specs.Writing.{filled, packed};
 ghost use Rattle.refusals.specs.Number.{code_of};
-ghost use Rattle.encoding.specs.Wrote.{Room, Appends, Small, line};
-ghost use Rattle.assembly.specs.Packet.{Sound, head_units_of, open_bits, head_of, numbers_at, bits_of, bytes_of, payload_of, units_of, long_refusal, heads_of, records_of, bits_in};
+ghost use Rattle.codes.specs.Wrote.{Room, Appends};
+ghost use Rattle.encoding.specs.Numbers.{Small, line};
+ghost use Rattle.encoding.specs.Record.{record_in};
+ghost use Rattle.assembly.specs.Packet.{Sound, head_units_of, open_bits, head_of, bits_of, bytes_of, payload_of, units_of, long_refusal, heads_of, records_of, bits_in};
 
-use encoding::{BitWriter, Code, Sink, put_record, record_bytes};
+use codes::{BitWriter, Code};
+use encoding::Rows;
 use refusals::Refusal;
 
 // What a packet's records hold: its components, the rows of a record, their columns; and how many records there are.
@@ -39,14 +42,19 @@ pub struct Packet<'a> {
 }
 
 impl<'a> Packet<'a> {
-    // The numbers of record k.
-    fn record(self, k: usize) -> &'a [i32]
+    // Record k.
+    fn record(self, k: usize) -> Rows<'a>
         requires { k < self.shape.records }
-        ensures { result.now ≡ numbers_at self.entry.shape self.entry.numbers.now k }
+        ensures { record_in result.cols result.count result.numbers.now ≡ bits_of self.entry.shape self.entry.numbers.now k }
     {
-        let n = self.shape.rows * self.shape.cols;
+        let z = self.shape;
+        let n = z.rows * z.cols;
         let a = k * n;
-        &self.numbers[a..a + n]
+        Rows {
+            numbers: &self.numbers[a..a + n],
+            cols: z.cols,
+            count: z.rows,
+        }
     }
 
     // The bytes up to its payload, which starts at the first unit after the record headers.
@@ -57,18 +65,19 @@ impl<'a> Packet<'a> {
         (128 + (16 + 4 * (z.components as usize)) * z.records + 127) / 128 * 16
     }
 
-    // Its units.
-    pub fn measure(self) -> Result<u64, Refusal>
-        ensures refusal { code_of result ≡ long_refusal self.entry.shape self.entry.numbers.now }
-        ensures units { IfOk result (λ n. (n ≡ units_of self.entry.shape self.entry.numbers.now) × (n < 2 ^ 48)) }
+    // Its units, whether it passes or not; and whether its records do.
+    pub fn measure(self) -> (u64, Result<(), Refusal>)
+        ensures units { (result.0 ≡ units_of self.entry.shape self.entry.numbers.now) × (result.0 < 2 ^ 48) }
+        ensures refusal { code_of result.1 ≡ long_refusal self.entry.shape self.entry.numbers.now }
     {
         let mut bytes = 0;
+        let mut passes = Ok(());
         for k in 0..self.shape.records {
-            let n = record_bytes(self.record(k), self.shape.cols, self.shape.rows);
-            within(65535, n)?;
+            let n = self.record(k).bytes();
+            passes = passes.and(within(65535, n));
             bytes += n;
         }
-        Ok((self.head_bytes() as u64) / 16 + (bytes + 15) / 16)
+        ((self.head_bytes() as u64) / 16 + (bytes + 15) / 16, passes)
     }
 
     // Writes its header; its payload takes n units.
@@ -92,11 +101,10 @@ impl<'a> Packet<'a> {
         ensures header { Appends head.old head.new (head_of self.entry.shape (bytes_of self.entry.shape self.entry.numbers.now k)) }
         ensures record_after { Appends payload.old payload.new (filled 8 (bits_of self.entry.shape self.entry.numbers.now k)) × (payload.new.held ≡ 0) }
     {
-        let z = self.shape;
         let start = payload.place;
-        put_record(payload, self.record(k), z.cols, z.rows);
+        self.record(k).put_record(payload);
         let bytes = (payload.place - start) as u64;
-        head.put(Code::new(16, bytes).then(Code::zeros(4 * z.components)));
+        head.put(Code::new(16, bytes).then(Code::zeros(4 * self.shape.components)));
     }
 
     // Writes the records, one after the other.

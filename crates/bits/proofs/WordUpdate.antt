@@ -1,10 +1,5 @@
 -- A width update out of one word that holds all its bits. Assumes nothing.
-use borrow.Author.Tests.{lt-ltb, le-ltb}
-use mathlib.Core.Path.{◌≡◌, refl}
-use mathlib.Core.List.{List}
-use mathlib.Core.Logic.{⊎_elim}
-use Prim.Native.Nat.{ℕ, ◌+◌, ◌-◌, ◌*◌, ◌/◌, ◌%◌, ◌^◌, ◌≤◌, ◌<◌, min}
-use native.Mathlib.Omega.{arith}
+use Rattle.std.proofs.Common.{lt-ltb, le-ltb, ◌≡◌, refl, List, ⊎_elim, ℕ, ◌+◌, ◌-◌, ◌*◌, ◌/◌, ◌%◌, ◌^◌, ◌≤◌, ◌<◌, min, arith}
 use lib.Count.{count_leading_zeros}
 use Rattle.format.specs.Bits.{bits_at}
 use Rattle.format.specs.Reader.{Reader, update_of, skipped}

@@ -9,7 +9,7 @@ ghost use Rattle.bits.specs.View.{number_of, as_reader, as_taken, as_four, Ready
 
 use words::{top, window};
 
-// The bits that x has.
+// The bits that x has, under the name that document 01 has for them: its contract speaks in that word, and the library's is `leading_zeros`.
 pub fn bit_length(x: u64) -> u64
     ensures { (result ≡ bit_length x) × (result ≤ 64) }
 {
@@ -50,7 +50,9 @@ impl Status {
     }
 }
 
-// A place in a packet's bits, a word of the bits from there, the bits left of the allowance, and the status.
+// A place in a packet's bits, a word of the bits from there, the bits left of the allowance, and the status. The packet stands beside it as a
+// parameter: with the packet inside, coefficients of large tiles at selector 0 measured 4 per cent slower by value; by `&mut self` 2 per cent
+// faster, but those of small tiles up to 11 per cent slower.
 #[derive(Clone, Copy)]
 pub struct BitReader {
     pub place: u64,
@@ -114,6 +116,8 @@ pub fn allowance(bytes: u64) -> u64
     (bytes + 15) / 16 * 128
 }
 
+// The bounds `8 ≤ length`, `n ≤ 57` and `width < 2 ^ 32` stay clauses: each is of one value of one call, and a type would be made only to be taken
+// apart.
 impl BitReader {
     // A reader at a place, with a word of the bits from there.
     fn at(packet: &[u8], place: u64, remaining: u64, status: Status) -> BitReader
@@ -288,11 +292,11 @@ impl BitReader {
         ensures still_ready { Ready packet.now result.reader }
     {
         if self.status.stops() {
-            return self.width_first(packet, width);
+            return self.width_bit_by_bit(packet, width);
         }
         let u = changed(self.cache, width);
         if self.remaining.min(57) < u.used {
-            return self.width_first(packet, width);
+            return self.width_bit_by_bit(packet, width);
         }
         Taken {
             value: u.value,
@@ -301,7 +305,7 @@ impl BitReader {
     }
 
     // The same bit by bit: 0 keeps it, 10 adds a unary, 11 takes off the place of the next one.
-    fn width_first(self, packet: &[u8], width: u64) -> Taken<u64>
+    fn width_bit_by_bit(self, packet: &[u8], width: u64) -> Taken<u64>
         requires ready { Ready packet.now self }
         requires width_bound { width < 2 ^ 32 }
         ensures value { as_taken result ≡ update_of packet.now (as_reader self) width }
@@ -309,29 +313,13 @@ impl BitReader {
     {
         let a = self.read(packet, 1);
         let first = a.reader;
-        if a.value == 0 {
+        if a.value == 0 || first.status.stops() {
             return Taken {
                 value: width,
                 reader: first,
             };
         }
-        if first.status.stops() {
-            return Taken {
-                value: width,
-                reader: first,
-            };
-        }
-        first.width_second(packet, width)
-    }
-
-    // The same from the second opening bit on.
-    fn width_second(self, packet: &[u8], width: u64) -> Taken<u64>
-        requires ready { Ready packet.now self }
-        requires width_bound { width < 2 ^ 32 }
-        ensures value { as_taken result ≡ update_second packet.now width (read_of packet.now (as_reader self) 1) }
-        ensures still_ready { Ready packet.now result.reader }
-    {
-        let b = self.read(packet, 1);
+        let b = first.read(packet, 1);
         let second = b.reader;
         if second.status.stops() {
             return Taken {

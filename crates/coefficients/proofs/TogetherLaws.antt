@@ -1,10 +1,6 @@
 -- What a packet, sizes and a band that go together have: all that `decode_packet` asks. Assumes nothing.
-use mathlib.Core.Path.{◌≡◌}
-use mathlib.Core.List.{List}
-use mathlib.Core.Bool.{true, and-eq-true_iff}
-use Prim.Native.Nat.{ℕ, ◌*◌, ◌^◌, ◌≤◌, ◌<◌}
-use lib.ListN.{length}
-use borrow.Author.Tests.{leb-true, ltb-true, eqb-true}
+use Rattle.std.proofs.Common.{◌≡◌, List, true, ℕ, ◌*◌, ◌^◌, ◌≤◌, ◌<◌, length, leb-true, ltb-true, eqb-true}
+use Rattle.std.proofs.Math.Bool.{and-eq-true_iff}
 use Rattle.format.specs.Packets.{kind, blocks}
 use Rattle.coefficients.specs.Together.{together}
 

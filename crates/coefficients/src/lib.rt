@@ -6,38 +6,31 @@ ghost use Rattle.format.specs.Coefficients.{packet_values};
 ghost use Rattle.coefficients.specs.Together.{together, answer_of};
 
 use fields::Packet;
-use records::decode_packet;
+use records::{Shape, decode_packet};
 
 // Columns and records are below this.
 const LIMIT: usize = 65536;
 
 // Whether packet, sizes and the size of a band go together.
+#[tactic(auto, unfolding(crate::specs::Together::together))]
 fn fits(packet: &[u8], m: usize, cols: usize, n: usize, size: usize) -> bool
     ensures { result ≡ together packet.now m cols n size }
 {
     if packet.len() < 16 {
         return false;
     }
-    if 8 < m {
-        return false;
-    }
-    if LIMIT <= cols {
-        return false;
-    }
-    if LIMIT <= n {
-        return false;
-    }
     let header = Packet::new(packet);
-    if n < header.blocks() {
-        return false;
-    }
-    size == n * (header.kind() * m * cols)
+    m <= 8
+        && cols < LIMIT
+        && n < LIMIT
+        && header.blocks() <= n
+        && size == n * (header.kind() * m * cols)
 }
 
 // Whether packet, sizes and band go together, 1 or 0, how many records of the packet are broken and spent, and the bits
 // that they took. A flag beside the counts, since C reads it.
 #[repr(C)]
-#[derive(Clone, Copy)]
+#[derive(Clone, Copy, Default, PartialEq, Eq)]
 pub struct PacketCounts {
     pub together: u64,
     pub broken: u64,
@@ -52,14 +45,10 @@ pub fn arw6_packet(packet: &[u8], m: usize, cols: usize, n: usize, band: &mut [i
     ensures band_after { band.new ≡ cond (together packet.now m cols n (length band.old)) (packet_values packet.now m cols n) band.old }
 {
     if !fits(packet, m, cols, n, band.len()) {
-        return PacketCounts {
-            together: 0,
-            broken: 0,
-            spent: 0,
-            bits: 0,
-        };
+        return PacketCounts::default();
     }
-    let counts = decode_packet(&Packet::new(packet), m, cols, n, band);
+    let shape = Shape { m, cols };
+    let counts = decode_packet(&Packet::new(packet), shape, n, band);
     PacketCounts {
         together: 1,
         broken: counts.broken,

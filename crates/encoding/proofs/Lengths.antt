@@ -6,12 +6,12 @@ use Rattle.format.specs.Lifting.{Signal}
 use Rattle.format.specs.Reader.{bit_length}
 use Rattle.format.specs.Writing.{number_bits, zero_bits, unary_bits, update_bits, run_bits, sign_bits, signs_bits, next_bits, group_width, zero_groups, row_bits}
 use Rattle.format.proofs.BitLaws.{le-or-lt}
-use Rattle.encoding.specs.Wrote.{line, Small}
+use Rattle.encoding.specs.Numbers.{line, Small}
 use Rattle.encoding.specs.Turn.{run_tail, turn_groups, tail_bits, rest_bits}
 use Rattle.encoding.specs.Record.{total, rows_in, record_in}
-use Rattle.encoding.proofs.Widths.{length-number, length_most, width-most, run-most, run-some, run_ends}
-use Rattle.encoding.proofs.Pushed.{update-kept, update-grown, update-gone, update-shrunk}
-use Rattle.encoding.proofs.Runs.{code-whole, code-part, part-most}
+use Rattle.codes.proofs.Pushed.{length-number}
+use Rattle.encoding.proofs.Widths.{length_most, width-most, run-most, run-some, run_ends}
+use Rattle.encoding.proofs.Runs.{update-kept, update-grown, update-gone, update-shrunk, code-whole, code-part, part-most}
 use Rattle.encoding.proofs.Turns.{none_left, turn-some, turn-run, turn-group, tail-whole, tail-part, next_last, next_more, length-turn, row_of}
 use Rattle.encoding.proofs.Records.{part_small, row-length, row-bits, record-none, record-some}
 

@@ -1,6 +1,4 @@
 pub mod Widths
-pub mod Pushed
-pub mod Finished
 pub mod Runs
 pub mod Sizes
 pub mod Turns

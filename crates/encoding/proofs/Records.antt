@@ -11,11 +11,12 @@ use Rattle.format.specs.Packets.{sum}
 use Rattle.format.proofs.BitLaws.{le-or-lt}
 use Rattle.format.specs.Writing.{zero_bits, update_bits, group_width, groups_bits, padded, row_bits, record_row, magnitudes, record_bits, units, filled}
 use Rattle.lists.proofs.Rows.{rows_same}
-use Rattle.encoding.specs.Wrote.{Small, Appends, line}
+use Rattle.encoding.specs.Numbers.{Small, line}
+use Rattle.codes.specs.Wrote.{Appends}
 use Rattle.encoding.specs.Record.{total, rows_in, record_in}
-use Rattle.encoding.specs.declared.BitWriter.{BitWriter}
+use Rattle.codes.specs.declared.BitWriter.{BitWriter}
 use Rattle.format.proofs.TurnLaws.{sum_same}
-use Rattle.encoding.specs.Laws.{appends-both}
+use Rattle.codes.proofs.Laws.{appends-both}
 
 -- ---- sums
 pub sum-add : (f : ℕ → ℕ) (a b : ℕ) → sum f (a + b) ≡ sum f a + sum (λ k. f (a + k)) b

@@ -1,10 +1,10 @@
--- Laws of zero groups and of the code of a run. Assumes nothing.
-use Rattle.std.proofs.Common.{◌≡◌, refl, sym, ap, ◌∙◌, List, ◌++◌, ℕ, zero, suc, ◌+◌, ◌-◌, ◌*◌, ◌^◌, ◌≤◌, ◌<◌, pow-suc, lt_of_lt_of_le, arith, pow_mono, eq-eqb, ne_eqb}
+-- Laws of zero groups, of the code of a run and of a width update. Assumes nothing.
+use Rattle.std.proofs.Common.{◌≡◌, refl, sym, ap, ◌∙◌, List, [], ◌∷◌, ◌++◌, ℕ, zero, suc, ◌+◌, ◌-◌, ◌*◌, ◌^◌, ◌≤◌, ◌<◌, pow-suc, lt_of_lt_of_le, arith, pow_mono, lt-ltb, le-ltb, eq-eqb, ne_eqb}
 use Rattle.format.specs.Lifting.{Signal}
 use Rattle.format.specs.Reader.{bit_length}
-use Rattle.format.specs.Writing.{number_bits, zero_bits, unary_bits, run_bits, group_width, zero_groups}
+use Rattle.format.specs.Writing.{number_bits, zero_bits, unary_bits, update_bits, run_bits, group_width, zero_groups}
 use Rattle.encoding.proofs.Widths.{under-length, length-under, length_most, length_some}
-use Rattle.encoding.proofs.Pushed.{number-unary, number-join}
+use Rattle.codes.proofs.Pushed.{number-unary, number-join}
 
 -- ---- zero groups, one by one
 module _ (f : Signal) where
@@ -54,3 +54,32 @@ pub part-most : (k : ℕ) → k < 2 ^ 16 → (bit_length k ≤ 16) × (k < 2 ^ (
 part-most k h =
     let m : bit_length k ≤ bit_length k - 1 + 1 + (bit_length k - 1) = omega arith in
     (length_most k (omega arith) 16 h, lt_of_lt_of_le (under-length k (omega arith)) (pow_mono m))
+
+-- ---- the four forms of a width update
+opens : (n v : ℕ) (x y : List ℕ) → number_bits n v ≡ x → x ++ y ≡ number_bits n v ++ y
+opens n v x y e = ap (λ (z : List ℕ). z ++ y) (sym e)
+
+ten : number_bits 2 2 ≡ 1 ∷ 0 ∷ []
+unfolding number_bits
+ten = refl
+
+eleven : number_bits 2 3 ≡ 1 ∷ 1 ∷ []
+unfolding number_bits
+eleven = refl
+
+module _ (a b : ℕ) where
+  pub update-kept : a ≡ b → update_bits a b ≡ zero_bits 1
+  unfolding update_bits
+  update-kept e = rw (eq-eqb a b e)
+
+  pub update-grown : a < b → update_bits a b ≡ number_bits 2 2 ++ unary_bits (b - a)
+  unfolding update_bits
+  update-grown h = rw (ne_eqb a b (λ e. omega arith), lt-ltb a b h) (opens 2 2 (1 ∷ 0 ∷ []) (unary_bits (b - a)) ten)
+
+  pub update-gone : b < a → b ≡ 0 → update_bits a b ≡ number_bits 2 3 ++ zero_bits (a - 1)
+  unfolding update_bits
+  update-gone h z = rw (ne_eqb a b (λ e. omega arith), le-ltb a b (omega arith), eq-eqb b 0 z) (opens 2 3 (1 ∷ 1 ∷ []) (zero_bits (a - 1)) eleven)
+
+  pub update-shrunk : b < a → (b ≡ 0 → ⊥) → update_bits a b ≡ number_bits 2 3 ++ unary_bits (a - b)
+  unfolding update_bits
+  update-shrunk h z = rw (ne_eqb a b (λ e. omega arith), le-ltb a b (omega arith), ne_eqb b 0 z) (opens 2 3 (1 ∷ 1 ∷ []) (unary_bits (a - b)) eleven)

@@ -1,6 +1,6 @@
 -- The sign of a number. Assumes nothing.
 use Rattle.std.proofs.Common.{◌≡◌, refl, sym, ap, ◌∙◌, zero, suc, ℤ, pos, negsuc, of_z, to_z, to_z-of_z, w32, SFits, [], le-ltb, arith}
-use lib.Signed.{lt_z}
+use Rattle.std.specs.Int.Signed.{lt_z}
 use mir.Val.{bool_byte}
 use Rattle.format.specs.Writing.{number_bits, sign_bits}
 

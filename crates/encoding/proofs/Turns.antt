@@ -1,13 +1,14 @@
 -- Laws of a row's turns: the bits of the groups that are left are those of one turn, and the rest. Assumes nothing.
 use Rattle.std.proofs.Common.{◌≡◌, refl, sym, ap, ◌∙◌, List, [], ◌++◌, append-nil, append_assoc, Bool, true, false, cond, ℕ, zero, suc, ◌+◌, ◌-◌, ◌*◌, ◌/◌, ◌≤◌, ◌<◌, arith, ℤ, pos, nat_abs, length, length-append, eqb, ltb, eq-eqb, ne_eqb, eqb-true, ltb-false, le-leb, ⊎_elim}
+use Rattle.std.proofs.lemmas.Bool.{lt-leb}
 use Rattle.std.proofs.Math.ListN.{get_or-eq_default}
-use borrow.Author.Tests.{lt-leb}
 use Rattle.wrap32.proofs.Laws.{of-cond}
 use Rattle.format.proofs.BitLaws.{le-or-lt}
 use Rattle.format.specs.Lifting.{Signal}
 use Rattle.format.specs.Writing.{number_bits, unary_bits, update_bits, run_bits, group_width, zero_groups, value_bits, signs_bits, next_bits, after_run, groups_bits, padded, row_bits}
-use Rattle.encoding.proofs.Widths.{length-number, run-some}
-use Rattle.encoding.specs.Wrote.{line}
+use Rattle.codes.proofs.Pushed.{length-number}
+use Rattle.encoding.proofs.Widths.{run-some}
+use Rattle.encoding.specs.Numbers.{line}
 use Rattle.encoding.specs.Turn.{run_tail, turn_groups, tail_bits, turn_bits, rest_bits}
 
 module _ (f : Signal) where

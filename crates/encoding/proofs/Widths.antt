@@ -1,18 +1,13 @@
 -- The bits that a number takes, the width of a group, and how far a zero run goes. Assumes nothing.
-use Rattle.std.proofs.Common.{◌≡◌, refl, ◌∙◌, [], ◌∷◌, ℕ, zero, suc, ◌+◌, ◌*◌, ◌/◌, ◌%◌, ◌^◌, ◌≤◌, ◌<◌, max, pow-suc, arith, nat_abs, length, length-append, eqb, eq-eqb}
-use lib.Count.{leading_length}
-use borrow.Author.Tests.{eqb-false}
+use Rattle.std.proofs.Common.{◌≡◌, ℕ, zero, suc, ◌+◌, ◌*◌, ◌^◌, ◌≤◌, ◌<◌, max, pow-suc, arith, nat_abs, eqb, eq-eqb}
+use Rattle.std.proofs.lemmas.Nat.{leading_length}
+use Rattle.std.proofs.lemmas.Bool.{eqb-false}
 use Rattle.wrap32.proofs.Laws.{of-cond}
 use Rattle.format.specs.Lifting.{Signal}
 use Rattle.format.specs.Reader.{bit_length}
-use Rattle.format.specs.Writing.{number_bits, group_width, zero_groups}
+use Rattle.format.specs.Writing.{group_width, zero_groups}
 use Rattle.format.proofs.RunLaws.{exponent_lt}
-use Rattle.encoding.specs.Wrote.{Small}
-
-pub length-number : (n v : ℕ) → length (number_bits n v) ≡ n
-unfolding number_bits
-length-number zero v = refl
-length-number (suc n) v = length-append (number_bits n (v / 2)) (v % 2 ∷ []) ∙ omega (arith, length-number n (v / 2))
+use Rattle.encoding.specs.Numbers.{Small}
 
 -- ---- the bits that a number has
 module _ (x : ℕ) (fits : x < 2 ^ 64) where

@@ -3,7 +3,7 @@ use Rattle.std.specs.Prelude.{List, [], cond, ℕ, ℤ, nat_abs, length, eqb}
 use Rattle.lists.specs.Lists.{rows, row}
 use Rattle.format.specs.Packets.{sum}
 use Rattle.format.specs.Writing.{row_bits}
-use Rattle.encoding.specs.Wrote.{line}
+use Rattle.encoding.specs.Numbers.{line}
 
 -- the sum of the magnitudes of a list
 unfoldable pub total : List ℤ → ℕ

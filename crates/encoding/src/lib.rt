@@ -1,61 +1,17 @@
-// The bits of what is written: codes, what takes them, a bit writer over a slice and a count of bits, rows and records. Document 02, Job 2;
-// document 01, 'Coefficients'.
+// The bits of rows and records, as codes, and what takes them. Document 02, Job 2; document 01, 'Coefficients'.
 #![tactic(auto)]
 
 ghost use Rattle.std.specs.Prelude.{◌≡◌, List, [], ◌++◌, ℕ, ◌+◌, ◌-◌, ◌*◌, ◌/◌, ◌%◌, ◌^◌, ◌<◌, ◌≤◌, length, nat_abs, eqb};
+ghost use Rattle.lists.specs.Lists.{row};
 ghost use Rattle.format.specs.Writing.{number_bits, update_bits, run_bits, unary_bits, group_width, zero_groups, value_bits, sign_bits, signs_bits, next_bits, row_bits, zero_bits, units, filled, packed};
-ghost use Rattle.encoding.specs.Wrote.{Wrote, Room, Appends, Counts, CountRoom, Fresh, line, Small};
+ghost use Rattle.codes.specs.Wrote.{Room, Appends, Counts, CountRoom};
+ghost use Rattle.codes.proofs.Laws.{appends-none, appends-both, room_after, counts-none, counts-both, counts-after};
+ghost use Rattle.encoding.specs.Numbers.{line, Small};
 ghost use Rattle.encoding.specs.Record.{total, rows_in, record_in};
 ghost use Rattle.encoding.specs.Turn.{run_tail, turn_groups, tail_bits};
-ghost use Rattle.encoding.specs.Laws.{appends-none, appends-both, room_after, counts-none, counts-both, counts-after};
 
 use bits::bit_length;
-
-// Bits to be written: the last n of v.
-#[derive(Clone, Copy)]
-pub struct Code {
-    pub n: u64,
-    pub v: u64,
-    ghost short: { n ≤ 56 },
-    ghost fits: { v < 2 ^ n },
-}
-
-impl Code {
-    // v in n bits.
-    pub fn new(n: u64, v: u64) -> Code
-        requires { (n ≤ 56) × (v < 2 ^ n) }
-        ensures { (result.n ≡ n) × (result.v ≡ v) }
-    {
-        Code { n, v }
-    }
-
-    // n zeros.
-    pub fn zeros(n: u64) -> Code
-        requires { n ≤ 56 }
-        ensures { (result.n ≡ n) × (number_bits result.n result.v ≡ zero_bits n) }
-    {
-        Code { n, v: 0 }
-    }
-
-    // k - 1 zeros and a one.
-    fn unary(k: u64) -> Code
-        requires { (1 ≤ k) × (k ≤ 56) }
-        ensures { (result.n ≡ k) × (number_bits result.n result.v ≡ unary_bits k) }
-    {
-        Code { n: k, v: 1 }
-    }
-
-    // One code behind another.
-    pub fn then(self, b: Code) -> Code
-        requires { self.n + b.n ≤ 56 }
-        ensures { (result.n ≡ self.n + b.n) × (number_bits result.n result.v ≡ number_bits self.n self.v ++ number_bits b.n b.v) }
-    {
-        Code {
-            n: self.n + b.n,
-            v: (self.v << b.n) + b.v,
-        }
-    }
-}
+use codes::{BitWriter, Code, Count};
 
 // What takes codes: a writer, or a count of their bits.
 pub trait Sink {
@@ -78,15 +34,6 @@ pub trait Sink {
     ghost can_after: { (s t : Self) (x : List ℕ) (n k : ℕ) → CanTake s n → Takes s t x → length x + k ≤ n → CanTake t k };
 }
 
-// The slice, the bytes that are out, the bits that are not, the last the least significant, and how many those are.
-#[derive(Drop)]
-pub struct BitWriter<'a> {
-    pub out: &'a mut [u8],
-    pub place: usize,
-    pub cache: u64,
-    pub held: u64,
-}
-
 impl Sink for BitWriter<'_> {
     ghost Takes = { Appends };
 
@@ -99,67 +46,8 @@ impl Sink for BitWriter<'_> {
     ghost can_after = { room_after };
 
     fn put(&mut self, c: Code) {
-        self.cache = (self.cache << c.n) + c.v;
-        self.held += c.n;
-        while 8 <= self.held {
-            self.out_byte();
-        }
+        BitWriter::put(self, c);
     }
-}
-
-impl<'a> BitWriter<'a> {
-    // A writer at the start of a slice.
-    pub fn new(out: &'a mut [u8]) -> BitWriter<'a>
-        ensures same { result.out.ghost_name ≡ out.entry.ghost_name }
-        ensures fresh { Fresh result out.old }
-    {
-        BitWriter {
-            out,
-            place: 0,
-            cache: 0,
-            held: 0,
-        }
-    }
-
-    // The first eight bits that are held go out.
-    fn out_byte(&mut self)
-        requires { (8 ≤ self.old.held) × (self.old.held < 64) × (self.old.cache < 2 ^ self.old.held) × (self.old.place < length self.old.out.now) }
-        ensures same { self.new.out.ghost_name ≡ self.old.out.ghost_name }
-        ensures place { (self.new.place ≡ self.old.place + 1) × (self.new.held + 8 ≡ self.old.held) × (self.new.cache < 2 ^ self.new.held) × (length self.new.out.now ≡ length self.old.out.now) }
-        ensures wrote { (old b : List ℕ) → Wrote old self.old.out.now self.old.place self.old.cache self.old.held b → Wrote old self.new.out.now self.new.place self.new.cache self.new.held b }
-    {
-        self.held -= 8;
-        let at = self.place;
-        self.out[at] = (self.cache >> self.held) as u8;
-        self.cache %= 1 << self.held;
-        self.place = at + 1;
-    }
-
-    // Zeros up to a whole byte.
-    pub fn finish(&mut self)
-        requires { Room self.old 0 }
-        ensures appends { Appends self.old self.new (zero_bits ((8 - self.old.held) % 8)) }
-        ensures none_held { self.new.held ≡ 0 }
-    {
-        self.put(Code::zeros((8 - self.held) % 8));
-    }
-
-    // Zeros up to the end.
-    pub fn fill_up(&mut self)
-        requires { Room self.old 0 }
-        ensures same { self.new.out.ghost_name ≡ self.old.out.ghost_name }
-        ensures filled { (old x : List ℕ) → Wrote old self.old.out.now self.old.place self.old.cache self.old.held x → self.new.out.now ≡ packed (x ++ zero_bits (8 * length self.old.out.now - length x)) }
-    {
-        self.finish();
-        let place = self.place;
-        self.out[place..].fill(0);
-    }
-}
-
-// A count of bits.
-#[derive(Clone, Copy)]
-struct Count {
-    bits: u64,
 }
 
 impl Sink for Count {
@@ -174,7 +62,7 @@ impl Sink for Count {
     ghost can_after = { counts-after };
 
     fn put(&mut self, c: Code) {
-        self.bits += c.n;
+        Count::put(self, c);
     }
 }
 
@@ -195,7 +83,8 @@ fn update_code(a: u64, b: u64) -> Code
     Code::new(2, 3).then(Code::unary(a - b))
 }
 
-// A zero run of k groups, where g are left. Up to its end a run that goes on is the number k itself, after as many zeros.
+// A zero run of k groups, where g are left. Up to its end a run that goes on is the number k itself, after as many zeros. That k is not 0 stands here,
+// in `run_tail` and in `Code::unary`: a type for it would be made at each call, and taken apart at once.
 fn run_code(g: u64, k: u64) -> Code
     requires { (1 ≤ k) × (k ≤ g) × (g < 2 ^ 16) }
     ensures { (number_bits result.n result.v ≡ run_bits g k) × (result.n ≤ 32) }
@@ -234,7 +123,8 @@ struct Turn {
     code: Code,
 }
 
-// A row that may be written: its numbers, 0 past their end.
+// A row that may be written: its numbers, 0 past their end. That 4 * j fits a word stands in four contracts (j < 2 ^ 32): a
+// type of such j would be made anew for each j + 1 and j + k.
 #[derive(Clone, Copy)]
 struct Row<'a> {
     numbers: &'a [i32],
@@ -369,20 +259,6 @@ fn put_row<S: Sink>(s: &mut S, row: Row)
     }
 }
 
-// Puts the rows of a list, which are of one length.
-fn put_rows<S: Sink>(s: &mut S, l: &[i32], cols: usize, n: usize)
-    requires { (cols < 2 ^ 16) × (n < 2 ^ 8) × (length l.now ≡ n * cols) × Small (line l.now) × S.CanTake s.old (length (rows_in cols l.now n)) }
-    ensures { S.Takes s.old s.new (rows_in cols l.now n) }
-{
-    for q in 0..n {
-        let a = q * cols;
-        let row = Row {
-            numbers: &l[a..a + cols],
-        };
-        put_row(s, row);
-    }
-}
-
 // Whether all numbers are 0.
 fn all_zero(l: &[i32]) -> bool
     ensures { result ≡ eqb (total l.now) 0 }
@@ -390,31 +266,65 @@ fn all_zero(l: &[i32]) -> bool
     l.iter().all(|z| *z == 0)
 }
 
-// Puts the rows of a record; an all-zero record has no bits.
-fn put_numbers<S: Sink>(s: &mut S, l: &[i32], cols: usize, n: usize)
-    requires { (cols < 2 ^ 16) × (n < 2 ^ 8) × (length l.now ≡ n * cols) × Small (line l.now) × S.CanTake s.old (length (record_in cols n l.now)) }
-    ensures { S.Takes s.old s.new (record_in cols n l.now) }
-{
-    if !all_zero(l) {
-        put_rows(s, l, cols, n);
+// The rows of a record, one after the other: their numbers, which may be written, the columns of a row, and how many rows there are.
+#[derive(Clone, Copy)]
+pub struct Rows<'a> {
+    pub numbers: &'a [i32],
+    pub cols: usize,
+    pub count: usize,
+    ghost narrow: { cols < 2 ^ 16 },
+    ghost few: { count < 2 ^ 8 },
+    ghost long: { length numbers.now ≡ count * cols },
+    ghost small: { Small (line numbers.now) },
+}
+
+impl<'a> Rows<'a> {
+    // Row q.
+    fn row(self, q: usize) -> Row<'a>
+        requires { q < self.count }
+        ensures { row_bits (length result.numbers.now) (line result.numbers.now) ≡ row_bits self.entry.cols (line (row self.entry.cols self.entry.numbers.now q)) }
+    {
+        let a = q * self.cols;
+        Row {
+            numbers: &self.numbers[a..a + self.cols],
+        }
     }
-}
 
-// Writes a record, and zeros up to a whole byte.
-pub fn put_record(w: &mut BitWriter, l: &[i32], cols: usize, n: usize)
-    requires { (cols < 2 ^ 16) × (n < 2 ^ 8) × (length l.now ≡ n * cols) × Small (line l.now) × Room w.old (length (filled 8 (record_in cols n l.now))) × (w.old.held ≡ 0) }
-    ensures { Appends w.old w.new (filled 8 (record_in cols n l.now)) × (w.new.held ≡ 0) }
-{
-    put_numbers(w, l, cols, n);
-    w.finish();
-}
+    // Puts each row.
+    fn put_each<S: Sink>(self, s: &mut S)
+        requires { S.CanTake s.old (length (rows_in self.cols self.numbers.now self.count)) }
+        ensures { S.Takes s.old s.new (rows_in self.entry.cols self.entry.numbers.now self.entry.count) }
+    {
+        for q in 0..self.count {
+            put_row(s, self.row(q));
+        }
+    }
 
-// The bytes that a record takes.
-pub fn record_bytes(l: &[i32], cols: usize, n: usize) -> u64
-    requires { (cols < 2 ^ 16) × (n < 2 ^ 8) × (length l.now ≡ n * cols) × Small (line l.now) }
-    ensures { (result ≡ units 8 (record_in cols n l.now)) × (result < 2 ^ 32) }
-{
-    let mut count = Count { bits: 0 };
-    put_numbers(&mut count, l, cols, n);
-    count.bits.div_ceil(8)
+    // Puts the record; one that is all zeros has no bits.
+    fn put<S: Sink>(self, s: &mut S)
+        requires { S.CanTake s.old (length (record_in self.cols self.count self.numbers.now)) }
+        ensures { S.Takes s.old s.new (record_in self.entry.cols self.entry.count self.entry.numbers.now) }
+    {
+        if !all_zero(self.numbers) {
+            self.put_each(s);
+        }
+    }
+
+    // Writes the record, and zeros up to a whole byte.
+    pub fn put_record(self, w: &mut BitWriter)
+        requires { Room w.old (length (filled 8 (record_in self.cols self.count self.numbers.now))) × (w.old.held ≡ 0) }
+        ensures { Appends w.old w.new (filled 8 (record_in self.entry.cols self.entry.count self.entry.numbers.now)) × (w.new.held ≡ 0) }
+    {
+        self.put(w);
+        w.finish();
+    }
+
+    // The bytes that the record takes.
+    pub fn bytes(self) -> u64
+        ensures { (result ≡ units 8 (record_in self.entry.cols self.entry.count self.entry.numbers.now)) × (result < 2 ^ 32) }
+    {
+        let mut count = Count { bits: 0 };
+        self.put(&mut count);
+        count.bits.div_ceil(8)
+    }
 }

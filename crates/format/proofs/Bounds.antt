@@ -1,15 +1,8 @@
 -- Every definition of Lifting and Synthesis, walked once for any arithmetic that is faithful within 32 bits: from coefficients below 8,388,600
 -- it gives what whole numbers give, and each stage lies below its bound. Assumes nothing.
-use mathlib.Core.Path.{◌≡◌, refl}
-use mathlib.Core.Bool.{Bool, true}
-use mathlib.Core.Logic.{⊎_elim}
-use Prim.Native.Nat.{ℕ, zero, suc, ◌+◌, ◌-◌, ◌*◌, ◌/◌, ◌%◌, ◌^◌, ◌≤◌, ◌<◌, min}
-use native.Mathlib.Omega.{arith}
-use lib.Dec.{eqb}
-use borrow.Author.Tests.{eqb-true, eqb-false}
-use lib.IntN.{ℤ, pos, ◌+ℤ◌}
-use lib.Signed.{mag, shr_z}
-use mir.Syntax.{w16}
+use Rattle.std.proofs.Common.{◌≡◌, refl, Bool, true, ⊎_elim, ℕ, zero, suc, ◌+◌, ◌-◌, ◌*◌, ◌/◌, ◌%◌, ◌^◌, ◌≤◌, ◌<◌, min, arith, eqb, eqb-true, ℤ, pos, ◌+ℤ◌, w16}
+use Rattle.std.proofs.lemmas.Bool.{eqb-false}
+use Rattle.std.specs.Int.Signed.{mag, shr_z}
 use Rattle.wrap32.specs.Cut.{cut}
 use Rattle.wrap32.specs.Arithmetic.{Arithmetic, whole}
 use Rattle.wrap32.proofs.Laws.{cut_fits}

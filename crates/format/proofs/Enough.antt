@@ -1,14 +1,6 @@
 -- What `lengths_of` promises a caller: its refusal is the stream's whatever is lent, and slices as long as it says are never too short.
 -- Assumes nothing.
-use mathlib.Core.Path.{◌≡◌, refl, sym, ap, subst, ◌∙◌}
-use mathlib.Core.Logic.{◌⊎◌, inl, inr}
-use mathlib.Core.List.{List}
-use mathlib.Core.Bool.{Bool, true, false, not, ◌&&◌, ◌||◌}
-use Prim.Native.Nat.{ℕ, zero, suc, ◌+◌, ◌*◌, ◌/◌, ◌≤◌}
-use native.Mathlib.Omega.{arith}
-use lib.ListN.{length}
-use lib.Dec.{ltb, eqb}
-use borrow.Author.Tests.{le-ltb}
+use Rattle.std.proofs.Common.{◌≡◌, refl, sym, ap, subst, ◌∙◌, ◌⊎◌, inl, inr, List, Bool, true, false, not, ◌&&◌, ◌||◌, ℕ, zero, suc, ◌+◌, ◌*◌, ◌/◌, ◌≤◌, arith, length, ltb, eqb, le-ltb}
 use Rattle.format.specs.Sizes.{Colour, green, red, blue, index, l1, l2, l3, Group, base, detail, final, number, plane_rows_of}
 use Rattle.format.specs.Strip.{width, coded_height, valid_header, group_size}
 use Rattle.format.specs.Packets.{sum, entry_count, block_size, block_at, packet_start, packet_length, has_entry, packet_of, tag, zero4, kind, zero6, blocks, marker, zero8, padding, size_of, record_bit, record_length, payload_at}

@@ -1,13 +1,6 @@
 -- Recovery is exact: fed w, H and the three planes, it gives every coefficient of the rows that go in. Assumes nothing.
-use mathlib.Core.Path.{◌≡◌, refl, sym, ap, ◌∙◌}
-use mathlib.Core.Bool.{Bool, true, false, false≢true}
-use mathlib.Core.Logic.{inl, inr, ◌↔◌}
-use Prim.Native.Nat.{ℕ, ◌+◌, ◌*◌, ◌/◌, ◌%◌, ◌^◌, ◌≤◌, ◌<◌}
-use native.Mathlib.Omega.{arith}
-use lib.Dec.{T}
-use borrow.Author.Tests.{eqb-false, not-true}
-use lib.IntN.{pos, nat_abs}
-use mir.Syntax.{w16}
+use Rattle.std.proofs.Common.{◌≡◌, refl, sym, ap, ◌∙◌, Bool, true, false, inl, inr, ◌↔◌, ℕ, ◌+◌, ◌*◌, ◌/◌, ◌%◌, ◌^◌, ◌≤◌, ◌<◌, arith, T, pos, nat_abs, w16}
+use Rattle.std.proofs.lemmas.Bool.{false≢true, eqb-false, not-true}
 use Rattle.wrap32.specs.Cut.{cut}
 use Rattle.wrap32.specs.Arithmetic.{wrapping}
 use Rattle.format.specs.Lifting.{Plane, Shape, SameOn}

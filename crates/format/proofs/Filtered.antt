@@ -1,8 +1,5 @@
 -- The three levels on whole numbers are T.800's filter and nothing else, whatever the coefficients. Assumes nothing.
-use mathlib.Core.Path.{◌≡◌, refl, ◌∙◌}
-use mathlib.Core.Bool.{Bool, true, false}
-use Prim.Native.Nat.{ℕ, ◌+◌, ◌/◌, ◌%◌, ◌≤◌, ◌<◌}
-use native.Mathlib.Omega.{arith}
+use Rattle.std.proofs.Common.{◌≡◌, refl, ◌∙◌, Bool, true, false, ℕ, ◌+◌, ◌/◌, ◌%◌, ◌≤◌, ◌<◌, arith}
 use Rattle.wrap32.specs.Arithmetic.{whole}
 use Rattle.format.specs.Sizes.{Colour, green, red, blue, Level, l1, l2, l3, detail, columns, plane_rows, plane_columns, Tall}
 use Rattle.format.specs.Coefficients.{Coefs}

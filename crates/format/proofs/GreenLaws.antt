@@ -1,9 +1,5 @@
 -- The final green is undone, and depends on no place beyond its planes. Assumes nothing.
-use mathlib.Core.Path.{◌∙◌}
-use Prim.Native.Nat.{ℕ, ◌+◌, ◌-◌, ◌*◌, ◌<◌, min}
-use native.Mathlib.Omega.{arith}
-use lib.Dec.{eqb}
-use lib.IntN.{ℤ}
+use Rattle.std.proofs.Common.{◌∙◌, ℕ, ◌+◌, ◌-◌, ◌*◌, ◌<◌, min, arith, eqb, ℤ}
 use Rattle.wrap32.specs.Arithmetic.{Arithmetic, wrapping}
 use Rattle.wrap32.proofs.Laws.{add_w-fits, sub-add, shr-fits}
 use Rattle.wrap32.proofs.Bias.{green-back}

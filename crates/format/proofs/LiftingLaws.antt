@@ -1,14 +1,6 @@
 -- Lifting is undone, and depends on no place beyond its bands. Assumes nothing.
-use mathlib.Core.Path.{◌≡◌, refl, ◌∙◌}
-use mathlib.Core.Bool.{Bool, true, false, cond}
-use mathlib.Core.Logic.{⊎_elim}
-use Prim.Native.Nat.{ℕ, ◌+◌, ◌-◌, ◌*◌, ◌/◌, ◌%◌, ◌≤◌, ◌<◌, min}
-use native.Mathlib.Omega.{arith}
-use lib.Dec.{eqb}
-use borrow.Author.Tests.{eqb-true, eqb-false}
-use lib.IntN.{ℤ, pos}
-use mir.Syntax.{w32}
-use mir.Val.{SFits}
+use Rattle.std.proofs.Common.{◌≡◌, refl, ◌∙◌, Bool, true, false, cond, ⊎_elim, ℕ, ◌+◌, ◌-◌, ◌*◌, ◌/◌, ◌%◌, ◌≤◌, ◌<◌, min, arith, eqb, eqb-true, ℤ, pos, w32, SFits}
+use Rattle.std.proofs.lemmas.Bool.{eqb-false}
 use Rattle.wrap32.specs.Cut.{add_w, sub_w}
 use Rattle.wrap32.specs.Arithmetic.{Arithmetic, wrapping}
 use Rattle.wrap32.proofs.Laws.{of-cond, add_w-fits, sub_w-fits, sub-add, add-sub}

@@ -1,10 +1,5 @@
 -- Groups and indices by their numbers, and the 13 packets. Assumes nothing.
-use mathlib.Core.Path.{◌≡◌, refl, ap}
-use mathlib.Core.Bool.{Bool, true, false, cond}
-use Prim.Native.Nat.{ℕ, zero, suc, ◌/◌, ◌%◌, ◌≤◌, ◌<◌}
-use native.Mathlib.Omega.{arith}
-use lib.Dec.{ltb}
-use borrow.Author.Tests.{ltb-true}
+use Rattle.std.proofs.Common.{◌≡◌, refl, ap, Bool, true, false, cond, ℕ, zero, suc, ◌/◌, ◌%◌, ◌≤◌, ◌<◌, arith, ltb, ltb-true}
 use Rattle.wrap32.proofs.Laws.{of-cond}
 use Rattle.format.specs.Sizes.{Colour, green, red, blue, l1, l2, l3, Group, base, detail, final, present, number, index, numbered, indexed, packet_group, packet_index, group_in, colour_in, multiplier, columns}
 use Rattle.format.specs.Packets.{sum}

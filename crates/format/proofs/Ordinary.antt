@@ -1,13 +1,8 @@
 -- No wrap in ordinary frames. Of an accepted stream whose selectors are all 4 at most: no sum, doubling or shift on the way from coefficients
 -- to planes leaves signed 32 bits, the three levels are T.800's filter on whole numbers, and the planes lie strictly between -536,870,912 and
 -- 536,870,912. Assumes nothing.
-use mathlib.Core.Path.{◌≡◌, refl, sym, ap, ◌∙◌, subst}
-use mathlib.Core.Bool.{Bool}
-use mathlib.Core.List.{List, map}
-use Prim.Native.Nat.{ℕ, ◌≤◌, ◌<◌}
-use native.Mathlib.Omega.{arith}
-use lib.IntN.{ℤ, pos, negsuc, nat_abs}
-use lib.Signed.{mag}
+use Rattle.std.proofs.Common.{◌≡◌, refl, sym, ap, ◌∙◌, subst, Bool, List, map, ℕ, ◌≤◌, ◌<◌, arith, ℤ, pos, negsuc, nat_abs}
+use Rattle.std.specs.Int.Signed.{mag}
 use Rattle.wrap32.specs.Arithmetic.{wrapping, whole, number, checked}
 use Rattle.wrap32.proofs.Faithful.{wrapping-faithful, checked-faithful, number_of}
 use Rattle.lists.specs.Lists.{Each}

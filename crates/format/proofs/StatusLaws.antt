@@ -1,17 +1,8 @@
 -- How a record's reader moves, and that stopped records are the broken and the spent ones. Assumes nothing.
-use mathlib.Core.Path.{◌≡◌, refl, sym, ap, ◌∙◌}
-use mathlib.Core.List.{List, ◌++◌}
-use mathlib.Core.Bool.{Bool, true, false, cond}
-use Prim.Native.Nat.{ℕ, zero, suc, ◌+◌, ◌-◌, ◌*◌, ◌/◌, ◌^◌, ◌≤◌, min}
-use native.Mathlib.Nat.{zero-mul, suc-mul, add_comm}
-use native.Mathlib.Numerals.{add-one}
-use native.Mathlib.Omega.{arith}
-use lib.Dec.{leb, ltb, eqb}
-use lib.IntN.{ℤ, pos}
-use lib.ListN.{take, length-replicate, replicate-append-replicate}
-use lib.Seq.{take_at}
-use lib.Signed.{lt_z}
-use borrow.Author.Tests.{eq-eqb, ne_eqb, eqb-true, leb-true, ltb-true}
+use Rattle.std.proofs.Common.{◌≡◌, refl, sym, ap, ◌∙◌, List, ◌++◌, Bool, true, false, cond, ℕ, zero, suc, ◌+◌, ◌-◌, ◌*◌, ◌/◌, ◌^◌, ◌≤◌, min, zero-mul, suc-mul, add_comm, add-one, arith, leb, ltb, eqb, ℤ, pos, take, take_at, eq-eqb, ne_eqb}
+use Rattle.std.proofs.Common.{eqb-true, leb-true, ltb-true}
+use Rattle.std.proofs.lemmas.List.{length-replicate, replicate-append-replicate}
+use Rattle.std.specs.Int.Signed.{lt_z}
 use Rattle.wrap32.proofs.Laws.{of-cond}
 use Rattle.format.specs.Bits.{zeros_at}
 use Rattle.format.specs.Sizes.{Colour, green, red, blue, l1, l2, l3, Group, base, detail, final}

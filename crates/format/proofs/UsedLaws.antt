@@ -1,12 +1,6 @@
 -- Bits used: what each read takes, that a record's rows take no more than its allowance, what rows take once a status is set, and that the
 -- records of a tile take what the tile does. Assumes nothing.
-use mathlib.Core.Path.{◌≡◌, refl, sym, ap, ◌∙◌}
-use mathlib.Core.List.{List}
-use mathlib.Core.Bool.{◌&&◌}
-use Prim.Native.Nat.{ℕ, zero, suc, ◌+◌, ◌-◌, ◌*◌, ◌/◌, ◌≤◌, ◌<◌, min}
-use native.Mathlib.Omega.{arith}
-use lib.Dec.{leb, ltb, eqb}
-use borrow.Author.Tests.{ne_eqb, lt-ltb, leb-true, leb-false, ltb-true, ltb-false}
+use Rattle.std.proofs.Common.{◌≡◌, refl, sym, ap, ◌∙◌, List, ◌&&◌, ℕ, zero, suc, ◌+◌, ◌-◌, ◌*◌, ◌/◌, ◌≤◌, ◌<◌, min, arith, leb, ltb, eqb, ne_eqb, lt-ltb, leb-true, leb-false, ltb-true, ltb-false}
 use Rattle.wrap32.proofs.Laws.{of-cond}
 use Rattle.format.specs.Bits.{zeros_at}
 use Rattle.format.specs.Sizes.{group_in, colour_in, multiplier, columns}

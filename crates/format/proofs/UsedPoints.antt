@@ -1,8 +1,6 @@
 -- Bits that small records take, computed: two rows of 8 columns under selector 0. Assumes nothing.
-use mathlib.Core.Path.{◌≡◌, refl}
-use mathlib.Core.List.{List, [], ◌∷◌}
-use Prim.Native.Nat.{ℕ}
-use lib.Count.{count_leading_zeros}
+use Rattle.std.proofs.Common.{◌≡◌, refl, List, [], ◌∷◌, ℕ}
+use Rattle.std.specs.Int.Count.{count_leading_zeros}
 use Rattle.format.specs.Bits.{bit_at, bits_at, zeros_at}
 use Rattle.format.specs.Packets.{sum, kind, record_bit, record_length, selector, payload_at}
 use Rattle.format.specs.Reader.{Reader, read_of, unary_of, find_of, update_of, update_first, update_second, run_of, run_found}
@@ -39,7 +37,7 @@ pub record Bits : Type 0 where
   pub spent-by-a-unary : used (long_unary 0) ≡ 128
 
 pub bits : Bits
-unfolding bit_at bits_at zeros_at sum kind record_bit record_length selector payload_at read_of unary_of find_of update_of update_first update_second run_of run_found count_leading_zeros value_of sign_of four_of signs_of width_next group_of width_after zeros_of row_step row_from row_of rows_of row_used rows_used record_used
+unfolding bit_at bits_at zeros_at sum record_bit record_length selector payload_at read_of unary_of find_of update_of update_first update_second run_of run_found count_leading_zeros value_of sign_of four_of signs_of width_next group_of width_after zeros_of row_step row_from row_of rows_of row_used rows_used record_used
 bits =
     record {
       first-row = refl;

@@ -1,11 +1,6 @@
 -- The written stream at points, by computing: codes, rows, header, a block, a packet, and numbers and sizes on both sides of refusals. Assumes nothing.
-use mathlib.Core.Path.{◌≡◌, refl}
-use mathlib.Core.List.{List, [], ◌∷◌}
-use mathlib.Core.Bool.{true, false}
-use Prim.Native.Nat.{zero, suc}
-use lib.IntN.{ℤ, pos, negsuc}
-use lib.ListN.{get_or}
-use lib.Count.{count_leading_zeros}
+use Rattle.std.proofs.Common.{◌≡◌, refl, List, [], ◌∷◌, true, false, zero, suc, ℤ, pos, negsuc, get_or}
+use Rattle.std.specs.Int.Count.{count_leading_zeros}
 use Rattle.format.specs.Lifting.{Signal}
 use Rattle.format.specs.Sizes.{final, green}
 use Rattle.format.specs.Coefficients.{Coefs}

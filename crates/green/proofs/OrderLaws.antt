@@ -1,12 +1,7 @@
 -- No wrap in ordinary frames, in the order in which the code adds. Assumes nothing.
-use mathlib.Core.Path.{◌≡◌, sym, ap, ◌∙◌, subst}
-use mathlib.Core.List.{List, map}
-use Prim.Native.Nat.{ℕ, ◌+◌, ◌-◌, ◌*◌, ◌/◌, ◌^◌, ◌≤◌, ◌<◌, min}
-use native.Mathlib.Omega.{arith}
-use lib.Dec.{eqb}
-use lib.IntN.{ℤ, pos, ◌+ℤ◌, ◌-ℤ◌, +ℤ_comm, +ℤ_assoc}
+use Rattle.std.proofs.Common.{◌≡◌, sym, ap, ◌∙◌, subst, List, map, ℕ, ◌+◌, ◌-◌, ◌*◌, ◌/◌, ◌^◌, ◌≤◌, ◌<◌, min, arith, eqb, ℤ, pos, ◌+ℤ◌, ◌-ℤ◌, w32}
+use lib.IntN.{+ℤ_comm, +ℤ_assoc}
 use lib.Signed.{mag, shr_z}
-use mir.Syntax.{w32}
 use Rattle.wrap32.specs.Cut.{sub_w}
 use Rattle.wrap32.specs.Arithmetic.{Arithmetic, wrapping, whole, number, within, checked}
 use Rattle.wrap32.proofs.Laws.{add_w-plain, sub_w-plain, cut-id, mag-add, mag-diff, mag-half, mag-quarter}

@@ -1,12 +1,5 @@
 -- The outcome of a call, case by case: the stream is refused, the record isn't there, it is. Assumes nothing.
-use mathlib.Core.Path.{◌≡◌, refl, sym, ap, ◌∙◌}
-use mathlib.Core.List.{List, ◌++◌}
-use mathlib.Core.Bool.{Bool, true, false, cond, ◌&&◌}
-use Prim.Native.Nat.{ℕ, ◌*◌, ◌≤◌, ◌<◌}
-use lib.Dec.{ltb, eqb}
-use lib.IntN.{ℤ}
-use lib.ListN.{length, drop}
-use borrow.Author.Tests.{lt-ltb, le-ltb, ne_eqb}
+use Rattle.std.proofs.Common.{Result, Ok, Err, Option, ◌≡◌, refl, sym, ap, ◌∙◌, List, ◌++◌, Bool, true, false, cond, ◌&&◌, ℕ, ◌*◌, ◌≤◌, ◌<◌, ltb, eqb, ℤ, length, drop, lt-ltb, le-ltb, ne_eqb}
 use Rattle.format.specs.Sizes.{group_in, multiplier, components, columns}
 use Rattle.format.specs.Strip.{width}
 use Rattle.format.specs.Packets.{kind, blocks}
@@ -16,7 +9,6 @@ use Rattle.format.specs.Used as used
 use Rattle.format.specs.Used.{packet_in, has_record, numbers_in, values_in, stream_refusal, inspect_refusal, nothing, of_record, inspected, band_after}
 use Rattle.format.proofs.Lengths.{length-record}
 use Rattle.inspection.specs.declared.Inspected.{Inspected}
-use Rattle.std.proofs.Common.{Result, Ok, Err, Option}
 use Rattle.std.specs.Result.{IsErrAnd}
 use Rattle.refusals.specs.declared.Refusal.{Refusal}
 use Rattle.refusals.specs.Number.{number_of}

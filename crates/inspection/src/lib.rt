@@ -8,9 +8,9 @@ ghost use Rattle.format.specs.Used.{nothing, of_record, has_record};
 ghost use Rattle.inspection.specs.Inspect.{told, InspectOutcome};
 
 use bits::allowance;
-use fields::{Packet, Stream, columns, multiplier};
-use packets::{check_stream, group_of, packet_in};
-use records::{Counts, decode_record};
+use fields::Packet;
+use packets::{Entry, check_stream};
+use records::{Counts, Shape, decode_record};
 use refusals::Refusal;
 
 // What is known of a record: its byte length, its allowance, and what it counts: the bits that it took, and whether it is broken or spent.
@@ -24,7 +24,8 @@ pub struct Inspected {
 // A tile's packets.
 const PACKETS: usize = 13;
 
-// The byte of a packet where the payload of record i starts.
+// The byte of a packet where the payload of record i starts. That i is below 2 ^ 16 is a clause here and below: it is C's number, which is known to be so
+// once it is below the packet's count.
 fn payload_at(packet: &Packet<'_>, i: usize) -> usize
     requires { i < 2 ^ 16 }
     ensures { (result ≡ payload_at packet.now i) × (result < 2 ^ 36) }
@@ -37,20 +38,14 @@ fn payload_at(packet: &Packet<'_>, i: usize) -> usize
 }
 
 // Record i of a packet, which is there, in a band that is long enough.
-fn inspect_there(
-    packet: &Packet<'_>,
-    i: usize,
-    m: usize,
-    cols: usize,
-    band: &mut [i32],
-) -> Inspected
-    requires { (i < 2 ^ 16) × (m ≤ 8) × (cols < 2 ^ 16) × (kind packet.now * m * cols ≤ length band.old) }
-    ensures value { told (Ok (Some result)) ≡ of_record packet.now m cols i }
-    ensures band_after { band.new ≡ (record_of packet.now m cols i).values ++ drop (kind packet.now * m * cols) band.old }
+fn inspect_there(packet: &Packet<'_>, i: usize, shape: Shape, band: &mut [i32]) -> Inspected
+    requires { (i < 2 ^ 16) × (kind packet.now * shape.m * shape.cols ≤ length band.old) }
+    ensures value { told (Ok (Some result)) ≡ of_record packet.now shape.m shape.cols i }
+    ensures band_after { band.new ≡ (record_of packet.now shape.m shape.cols i).values ++ drop (kind packet.now * shape.m * shape.cols) band.old }
 {
-    let size = packet.kind() * m * cols;
+    let size = packet.kind() * shape.m * shape.cols;
     let offset = payload_at(packet, i);
-    let counts = decode_record(packet, i, offset, m, cols, &mut band[..size]);
+    let counts = decode_record(packet, i, offset, shape, &mut band[..size]);
     let bytes = packet.record_length(i) as u64;
     Inspected {
         bytes,
@@ -63,23 +58,22 @@ fn inspect_there(
 fn inspect_packet(
     packet: &Packet<'_>,
     i: usize,
-    m: usize,
-    cols: usize,
+    shape: Shape,
     band: &mut [i32],
 ) -> Result<Option<Inspected>, Refusal>
-    requires { (i < 2 ^ 16) × (m ≤ 8) × (cols < 2 ^ 16) }
-    ensures value { told result ≡ cond (ltb (length band.old) (kind packet.now * m * cols)) (nothing 4) (of_record packet.now m cols i) }
+    requires { i < 2 ^ 16 }
+    ensures value { told result ≡ cond (ltb (length band.old) (kind packet.now * shape.m * shape.cols)) (nothing 4) (of_record packet.now shape.m shape.cols i) }
     ensures there { IfOk result (λ found. is_some found ≡ true) }
-    ensures band_after { band.new ≡ cond (ltb (length band.old) (kind packet.now * m * cols)) band.old ((record_of packet.now m cols i).values ++ drop (kind packet.now * m * cols) band.old) }
+    ensures band_after { band.new ≡ cond (ltb (length band.old) (kind packet.now * shape.m * shape.cols)) band.old ((record_of packet.now shape.m shape.cols i).values ++ drop (kind packet.now * shape.m * shape.cols) band.old) }
 {
-    if band.len() < packet.kind() * m * cols {
+    if band.len() < packet.kind() * shape.m * shape.cols {
         return Err(Refusal::SliceTooShort);
     }
-    Ok(Some(inspect_there(packet, i, m, cols, band)))
+    Ok(Some(inspect_there(packet, i, shape, band)))
 }
 
 // Record `record` of packet `number`, of 13 in the order of document 01's checks, into the start of the lent band: a refusal, or none where it
-// isn't there, with nothing changed; or what is known of the record.
+// isn't there, with nothing changed; or what is known of the record. Both are numbers, as C gives them.
 pub fn inspect_record(
     stream: &[u8],
     number: usize,
@@ -89,21 +83,18 @@ pub fn inspect_record(
     ensures outcome { InspectOutcome stream.now number «record» band.old (told result) band.new }
     ensures there { IfOk result (λ found. is_some found ≡ has_record stream.now number «record») }
 {
-    check_stream(stream)?;
+    let checked = check_stream(stream)?;
     if PACKETS <= number {
         return Ok(None);
     }
-    let checked = Stream::new(stream);
-    let own = packet_in(&checked, number);
+    let own = checked.packet_in(number);
     if own.blocks() <= record {
         return Ok(None);
     }
-    let group = group_of(number);
-    inspect_packet(
-        &own,
-        record,
-        multiplier(group),
-        columns(checked.width(), group),
-        band,
-    )
+    let group = Entry::of(number).group;
+    let shape = Shape {
+        m: group.multiplier(),
+        cols: group.columns(checked.stream.width()),
+    };
+    inspect_packet(&own, record, shape, band)
 }

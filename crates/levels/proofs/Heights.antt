@@ -1,9 +1,5 @@
 -- How many rows a level has, of each kind. Assumes nothing.
-use mathlib.Core.Path.{◌≡◌, refl}
-use mathlib.Core.Bool.{Bool, true, false}
-use Prim.Native.Nat.{ℕ, ◌+◌, ◌*◌, ◌%◌, ◌^◌, ◌≤◌, ◌<◌}
-use native.Mathlib.Omega.{arith}
-use lib.Dec.{ltb}
+use Rattle.std.proofs.Common.{◌≡◌, refl, Bool, true, false, ℕ, ◌+◌, ◌*◌, ◌%◌, ◌^◌, ◌≤◌, ◌<◌, arith, ltb}
 use Rattle.wrap32.proofs.Laws.{of-cond}
 use Rattle.format.specs.Sizes.{Level, l1, l2, l3, detail, multiplier, columns, Tall}
 use Rattle.format.specs.Table.{height, highs}
@@ -11,10 +7,6 @@ use Rattle.passes.specs.declared.Band as code-band
 use Rattle.passes.specs.Level.{packet_row}
 use Rattle.levels.specs.Placed.{Short}
 use Rattle.levels.specs.Steps.{leads, next}
-
-pub highs-1 : (g : Bool) (n : ℕ) → Tall g n → n ≡ highs g l1 (height g n l1)
-highs-1 false n t = refl
-highs-1 true n t = omega arith
 
 pub highs-2 : (g : Bool) (n : ℕ) → height g n l2 ≡ highs g l2 (height g n l2)
 highs-2 false n = refl

@@ -1,9 +1,5 @@
 -- The rows of a level lie in its block. Assumes nothing.
-use mathlib.Core.Path.{◌≡◌}
-use mathlib.Core.Bool.{Bool}
-use Prim.Native.Nat.{ℕ, suc, ◌+◌, ◌*◌, ◌/◌, ◌%◌, ◌^◌, ◌≤◌, ◌<◌}
-use native.Mathlib.Nat.{mul-le-mul_right, mod-lt}
-use native.Mathlib.Omega.{arith}
+use Rattle.std.proofs.Common.{◌≡◌, Bool, ℕ, suc, ◌+◌, ◌*◌, ◌/◌, ◌%◌, ◌^◌, ◌≤◌, ◌<◌, mul-le-mul_right, mod-lt, arith}
 use Rattle.format.specs.Sizes.{Level, l1, l2, l3, detail, multiplier, columns}
 use Rattle.format.specs.Table.{start, height, highs, hl, lh, hh, source, band_rows, from_component, from_row}
 use Rattle.format.specs.Table as table

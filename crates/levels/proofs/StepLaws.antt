@@ -1,9 +1,5 @@
 -- Steps of a level laid into the work slice: what stands below them stays, and so the row after the last pair is made of what was there. Assumes nothing.
-use mathlib.Core.Path.{◌≡◌, sym, ap, ◌∙◌}
-use mathlib.Core.List.{List}
-use Prim.Native.Nat.{ℕ, ◌+◌, ◌-◌, ◌≤◌}
-use native.Mathlib.Omega.{arith}
-use lib.IntN.{ℤ}
+use Rattle.std.proofs.Common.{◌≡◌, sym, ap, ◌∙◌, List, ℕ, ◌+◌, ◌-◌, ◌≤◌, arith, ℤ}
 use Rattle.lifting.specs.Lift.{lift_row, end_row}
 use Rattle.passes.specs.declared.Level as code
 use Rattle.passes.specs.Level.{band_row, lo_h, hi_h, lo_l, hi_l, Stands}

@@ -1,13 +1,6 @@
 -- Steps of a level whose near rows stand in its block are document 01's, and their ring goes on. Assumes nothing.
-use mathlib.Core.Path.{◌≡◌, refl, sym, ap, ◌∙◌, subst₃}
-use mathlib.Core.Bool.{Bool, true, false, cond}
-use mathlib.Core.List.{List, ◌++◌}
-use Prim.Native.Nat.{ℕ, ◌+◌, ◌-◌, ◌*◌, ◌%◌, ◌≤◌, ◌<◌}
-use native.Mathlib.Omega.{arith}
-use lib.Dec.{ltb}
-use borrow.Author.Tests.{ltb-true, ltb-false}
-use lib.IntN.{ℤ}
-use lib.ListN.{length}
+use Rattle.std.proofs.Common.{◌≡◌, refl, sym, ap, ◌∙◌, Bool, true, false, cond, List, ◌++◌, ℕ, ◌+◌, ◌-◌, ◌*◌, ◌%◌, ◌≤◌, ◌<◌, arith, ltb, ltb-true, ltb-false, ℤ, length}
+use mathlib.Core.Path.{subst₃}
 use Rattle.wrap32.specs.Arithmetic.{wrapping}
 use Rattle.lists.specs.Lists.{part, rows, put_at, Gone}
 use Rattle.lists.proofs.Laid.{laid_same}
@@ -175,14 +168,13 @@ module _ (plan : Plan) (at : ℕ) (fits : Fits plan at) (l : Level) (r : code.Le
     ring-room = rw p (omega (arith, out-room w s fits.0.whole l out, room))
 
     pub level-asks : (ring : ℕ) → out_in w s at l ≤ out → ring ≡ three_rows (columns w (detail l))
-        → (1 ≤ r.h) × (from < m) × (from + count ≤ m) × (r.h ≤ m) × (m ≤ r.h + 1) × (leads g l ≡ false → m ≡ r.h) × InPlace r m out pairs size ring
+        → (1 ≤ r.h) × (from < m) × (from + count ≤ m) × (m ≤ r.h + 1) × (leads g l ≡ false → m ≡ r.h) × InPlace r m out pairs size ring
     level-asks ring o q =
         let t = heights g n fits.0.tall l in
         let h = f.rows in (
           omega (arith, h, height-pos g n fits.0.tall l),
           omega (arith, e, a),
           omega (arith, e, b),
-          omega (arith, e, h, t.0),
           omega (arith, e, h, t.1),
           (λ d. e ∙ t.2 d ∙ sym h),
           record {

@@ -1,12 +1,6 @@
 -- Records that stand finished in their ring, row by row: they are what a level reads. Assumes nothing.
-use mathlib.Core.Path.{◌≡◌, refl, sym, ap, ◌∙◌}
-use mathlib.Core.Bool.{Bool, cond}
-use mathlib.Core.List.{List}
-use Prim.Native.Nat.{ℕ, suc, ◌+◌, ◌*◌, ◌/◌, ◌%◌, ◌≤◌, ◌<◌}
-use native.Mathlib.Nat.{mul-le-mul_right, mul_assoc, add-mul, add_assoc, mod-lt, div-add-mod'}
-use native.Mathlib.Omega.{arith}
+use Rattle.std.proofs.Common.{◌≡◌, refl, sym, ap, ◌∙◌, Bool, cond, List, ℕ, suc, ◌+◌, ◌*◌, ◌/◌, ◌%◌, ◌≤◌, ◌<◌, mul-le-mul_right, mul_assoc, add-mul, add_assoc, mod-lt, div-add-mod', arith, ℤ}
 use lib.Arith.{digits_div, digits_mod, mod-mul}
-use lib.IntN.{ℤ}
 use Rattle.lists.specs.Lists.{part}
 use Rattle.lists.proofs.Part.{part-part}
 use Rattle.lists.proofs.Rows.{row-rows}

@@ -1,9 +1,8 @@
 // The row kernels of synthesis: 5/3 lifting, E and running sums over rows of i32. Document 01, 'Synthesis'.
 #![tactic(auto)]
 
-ghost use Rattle.std.specs.Prelude.{◌≡◌, ◌+◌, ◌*◌, ◌≤◌, length, ℤ};
-ghost use Rattle.lists.specs.Lists.{part, put_at, Clear};
-ghost use Rattle.lifting.specs.Lift.{low_step, high_step, end_step, low_row, step_row, lift_row, edge_row, sum_row};
+ghost use Rattle.std.specs.Prelude.{◌≡◌, ◌*◌, ◌≤◌, length, ℤ};
+ghost use Rattle.lifting.specs.Lift.{low_step, high_step, end_step, step_row, lift_row, edge_row, sum_row};
 
 use wrap32::{edge_detail, sign16, wrapping_add, wrapping_sub};
 
@@ -23,12 +22,23 @@ fn high_step(h: i32, a: i32, b: i32) -> i32
     wrapping_add(h, wrapping_add(a, b) >> 1)
 }
 
-// What a row kernel makes of x, from the numbers at its place in two other rows.
+// What a row kernel makes of x, from the numbers at its place in two other rows. Each kernel names the three, as an operator its arguments.
 pub trait Step {
     ghost step: { ℤ → ℤ → ℤ → ℤ };
 
     fn step(x: i32, a: i32, b: i32) -> i32
         ensures { result ≡ step x a b };
+}
+
+// A low result between two rows of high ones.
+pub struct Low;
+
+impl Step for Low {
+    ghost step = { low_step };
+
+    fn step(x: i32, a: i32, b: i32) -> i32 {
+        low_step(x, a, b)
+    }
 }
 
 // A high result between two rows of low ones.
@@ -53,13 +63,13 @@ impl Step for Beside {
     }
 }
 
-// The low results of one row.
-pub fn lift_low(dst: &mut [i32], low: &[i32], prev: &[i32], cur: &[i32])
-    requires { (length dst.old ≤ length low.now) × (length dst.old ≤ length prev.now) × (length dst.old ≤ length cur.now) }
-    ensures { dst.new ≡ low_row (length dst.old) low.now prev.now cur.now }
+// A row of results by a step, from three rows.
+pub fn step_row<S: Step>(dst: &mut [i32], row: &[i32], a: &[i32], b: &[i32])
+    requires { (length dst.old ≤ length row.now) × (length dst.old ≤ length a.now) × (length dst.old ≤ length b.now) }
+    ensures { dst.new ≡ step_row S.step (length dst.old) row.now a.now b.now }
 {
     for (x, d) in dst.iter_mut().enumerate() {
-        *d = low_step(low[x], prev[x], cur[x]);
+        *d = S::step(row[x], a[x], b[x]);
     }
 }
 
@@ -80,17 +90,6 @@ pub fn lift_row(out: &mut [i32], low: &[i32], high: &[i32])
         }
         out[2 * last] = cur;
         out[2 * last + 1] = high_step(high[last], cur, cur);
-    }
-}
-
-// High results at `to`, from the rows at a and b of the same slice.
-pub fn step_row<S: Step>(ring: &mut [i32], high: &[i32], to: usize, a: usize, b: usize)
-    requires in_bounds { (to + length high.now ≤ length ring.old) × (a + length high.now ≤ length ring.old) × (b + length high.now ≤ length ring.old) }
-    requires clear { Clear to (length high.now) a × Clear to (length high.now) b }
-    ensures { ring.new ≡ put_at ring.old to (step_row S.step (length high.now) high.now (part ring.old a (length high.now)) (part ring.old b (length high.now))) }
-{
-    for (x, &h) in high.iter().enumerate() {
-        ring[to + x] = S::step(h, ring[a + x], ring[b + x]);
     }
 }
 

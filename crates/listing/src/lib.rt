@@ -114,7 +114,8 @@ pub fn respond(input: &[u8], out: &mut [u8; 4096]) -> usize
     n
 }
 
-// Reads until the buffer is full (std's `read_to_end` wants the heap) or the input ends, however the input is cut into reads: how many bytes then stand at the buffer's start.
+// Reads until the buffer is full or the input ends, however the input is cut into reads: how many bytes then stand at the buffer's start. It is a
+// `while`, since each read says how far it came; std's `read_to_end` wants the heap.
 fn read_full<R: Read>(input: &mut R, buf: &mut [u8]) -> io::Result<usize>
     ensures in_bounds { IfOk result (λ n. n ≤ length buf.new) }
     ensures bytes { IfOk result (λ n. Consumes (R.remaining input.old) (R.remaining input.new) (take n buf.new)) }
@@ -131,7 +132,7 @@ fn read_full<R: Read>(input: &mut R, buf: &mut [u8]) -> io::Result<usize>
     Ok(done)
 }
 
-// Answer standard input, however it is cut into reads, on standard output.
+// Answer standard input, however it is cut into reads, on standard output. It stands in an array, of one byte more than the longest, as the text does.
 pub fn run(rt: &(impl Input + Print)) -> io::Result<()> {
     let mut input = [0u8; 65537];
     let n = read_full(&mut rt.reader(), &mut input)?;

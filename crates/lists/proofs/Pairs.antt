@@ -1,12 +1,7 @@
 -- A ring of pairs of rows is a ring of rows, and what stands there after more pairs were laid. Assumes nothing.
-use mathlib.Core.Path.{◌≡◌, refl, sym, ap, ◌∙◌}
-use mathlib.Core.List.{List, ◌++◌}
-use Prim.Native.Nat.{ℕ, zero, suc, ◌+◌, ◌*◌, ◌/◌, ◌%◌, ◌≤◌, ◌<◌}
-use native.Mathlib.Nat.{mul-le-mul_right, mod-lt, div-add-mod'}
-use native.Mathlib.Omega.{arith}
-use lib.Arith.{digits_mod}
-use lib.ListN.{length, take, drop, length-append, length-drop}
-use lib.Seq.{length-take-le, take-take, take-add, take_at, drop_at, drop-drop}
+use Rattle.std.proofs.Common.{◌≡◌, refl, sym, ap, ◌∙◌, List, ◌++◌, ℕ, zero, suc, ◌+◌, ◌*◌, ◌/◌, ◌%◌, ◌≤◌, ◌<◌, mul-le-mul_right, mod-lt, div-add-mod', arith, length, take, drop, length-append, length-drop, length-take-le, take-take}
+use Rattle.std.proofs.Common.{take-add, take_at, drop_at, drop-drop}
+use Rattle.std.proofs.Math.Arith.{digits_mod}
 use Rattle.lists.specs.Lists.{part, put_at, laid, Rung, Gone}
 use Rattle.lists.proofs.Laid.{length-laid}
 use Rattle.lists.proofs.Rings.{rung-on, rung-out}

@@ -1,26 +1,17 @@
--- Laws of the code's answers: groups by number, entries, the answer of the check. Assumes nothing.
-use mathlib.Core.Path.{◌≡◌, refl}
-use mathlib.Core.List.{List}
-use mathlib.Core.Bool.{not}
-use Prim.Native.Nat.{ℕ, ◌+◌, ◌≤◌, ◌<◌}
-use lib.ListN.{length}
-use Rattle.format.specs.Sizes.{numbered}
-use Rattle.format.specs.Strip.{coded_height}
-use Rattle.format.specs.Packets.{has_entry, packet_of, kind, blocks, packet_start, packet_length}
-use Rattle.format.specs.Refusals.{◌▷◌, on, directory_refusal, tile_refusal, entry_check, packet_refusal}
+-- Laws of the checks: an entry that is there, a stream that none refuses. Assumes nothing.
+use Rattle.std.proofs.Common.{◌≡◌, true, refl, List, ℕ, ◌+◌, ◌≤◌, ◌<◌, length, lt-ltb}
+use Rattle.format.specs.Strip.{valid_header}
+use Rattle.format.specs.Packets.{entry_count, has_entry, block_at, packet_start, packet_length}
+use Rattle.format.specs.Refusals.{directory_refusal, packets_refusal}
+use Rattle.format.specs.Used.{stream_refusal}
 use Rattle.format.proofs.DirectoryLaws.{inside}
-use Rattle.format.proofs.Numbered.{number_of}
-use Rattle.format.proofs.TurnLaws.{on-not}
 
--- ---- the entry of a group
+-- the packet of an entry that is there lies within the stream
+pub found_inside : (s : List ℕ) (g k n : ℕ) → n ≡ entry_count s (block_at s g) → directory_refusal s ≡ 0 → g < 5 → k < n → packet_start s g k + packet_length s g k ≤ length s
+unfolding has_entry
+found_inside s g k n is good h has = inside s g k good h (rw (← is) (lt-ltb k n has))
 
-module _ (s : List ℕ) (g k : ℕ) (h : g < 5) where
-  -- the check of an entry, by its group's number
-  pub entry_check_is : entry_check s (numbered g) k
-      ≡ (on (not (has_entry s g k)) 9 ▷ packet_refusal (packet_of s g k) ▷ tile_refusal (kind (packet_of s g k)) (blocks (packet_of s g k)) (numbered g) (coded_height s) (length s))
-  unfolding entry_check
-  entry_check_is = rw (number_of g h) refl
-
-  -- the packet of an entry that is there lies within the stream
-  pub found_inside : directory_refusal s ≡ 0 → on (not (has_entry s g k)) 9 ≡ 0 → packet_start s g k + packet_length s g k ≤ length s
-  found_inside good none = inside s g k good h (on-not (has_entry s g k) 8 none)
+-- a stream whose header is valid and whose other checks pass
+pub rest_passed : (s : List ℕ) → valid_header s ≡ true → directory_refusal s ≡ 0 → packets_refusal s ≡ 0 → stream_refusal s ≡ 0
+unfolding stream_refusal
+rest_passed s valid listed packets = rw (valid, listed, packets) refl

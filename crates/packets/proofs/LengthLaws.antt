@@ -1,10 +1,11 @@
 -- Laws of the lengths that the code answers: what they say of a stream and of its refusal. Assumes nothing.
-use Rattle.std.proofs.Common.{Ok, Err, ◌≡◌, refl, sym, ap, ◌∙◌, List, ℕ, zero, suc, ◌≤◌, length}
-use Rattle.format.specs.Strip.{width, coded_height}
-use Rattle.format.specs.Refusals.{◌▷◌, large_refusal, short_refusal, directory_refusal, packets_refusal, refusal}
+use Rattle.std.proofs.Common.{Ok, Err, ◌≡◌, refl, sym, ap, ◌∙◌, true, not, List, ℕ, zero, suc, ◌≤◌, length}
+use Rattle.format.specs.Strip.{width, coded_height, valid_header}
+use Rattle.format.specs.Refusals.{◌▷◌, on, large_refusal, short_refusal, directory_refusal, packets_refusal, refusal}
 use Rattle.format.specs.Tile as tile
-use Rattle.format.specs.Tile.{lengths_by, lengths_of}
+use Rattle.format.specs.Tile.{size_refusal, lengths_by, lengths_of}
 use Rattle.format.proofs.Enough.{measured, measured-long, refusal-after, refused-whatever-is-lent}
+use Rattle.format.proofs.TurnLaws.{both-none, on-not}
 use Rattle.refusals.specs.declared.Refusal.{Refusal}
 use Rattle.refusals.specs.Number.{number_of}
 use Rattle.refusals.proofs.Laws.{not_zero}
@@ -45,6 +46,10 @@ module _ (s : List ℕ) (need : Lengths) (is : told (Ok need) ≡ lengths_of s) 
 
   pub needed_long : 128 ≤ length s
   needed_long = measured-long s none
+
+  pub needed_valid : valid_header s ≡ true
+  unfolding lengths_of
+  needed_valid = on-not (valid_header s) 1 (both-none (on (not (valid_header s)) 2) _ (sym (refusal-is (size_refusal s) _ _) ∙ none)).0
 
   -- they are those of the coded size
   pub needed_is : told (Ok need) ≡ lengths_by 0 (width s) (coded_height s)

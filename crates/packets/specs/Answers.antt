@@ -10,8 +10,8 @@ use Rattle.packets.specs.declared.Lengths.{Lengths}
 abbrev pub told : Result Lengths Refusal → tile.Lengths
 told (Ok n) = record {
   refusal = 0;
-  width = n.width;
-  height = n.height;
+  width = n.size.width;
+  height = n.size.height;
   rows = n.rows;
   green = n.green;
   red = n.red;

@@ -1,20 +1,41 @@
-// The directory of a stream: document 01, 'Directory and packets'.
-ghost use Rattle.std.specs.Prelude.{◌≡◌, ◌+◌, ◌*◌, ◌^◌, ◌<◌, ◌≤◌, not, length, IfOk};
-ghost use Rattle.format.specs.Packets.{sum, entry_count, block_size, length_place, entry_length, block_at, group_start, packet_start, packet_length, has_entry};
-ghost use Rattle.format.specs.Refusals.{on, each, entry_refusal, group_refusal, directory_refusal};
+// The directory of a stream: document 01, 'Directory and packets'. It has its groups and their entries by number alone, and a group may have
+// nine entries, so a block goes by the number of its group, with which one reckons, and its entries by theirs. The bounds of both are clauses, as each
+// call has another number.
+ghost use Rattle.std.specs.Prelude.{◌≡◌, ◌+◌, ◌*◌, ◌^◌, ◌<◌, ◌≤◌, length, IfOk};
+ghost use Rattle.format.specs.Sizes.{group_in, colour_in};
+ghost use Rattle.format.specs.Packets.{sum, entry_count, block_size, length_place, entry_length, block_at, group_start, packet_start, packet_length, packet_of};
+ghost use Rattle.format.specs.Refusals.{each, entry_refusal, group_refusal, directory_refusal};
+ghost use Rattle.fields.specs.Kinds.{group_of, colour_of};
 ghost use Rattle.refusals.specs.Number.{code_of};
 
-use fields::Stream;
+use fields::{Colour, Group, Stream};
 use refusals::Refusal;
 use strip::TileStream;
 
-// The place of an entry in a directory: a group and an index in it.
+// The place of a packet in a directory: its group, and its colour there.
 #[derive(Clone, Copy)]
 pub struct Entry {
-    pub group: usize,
-    pub index: usize,
-    pub ghost in_groups: { group < 5 },
-    pub ghost in_block: { index < 16 },
+    pub group: Group,
+    pub colour: Colour,
+}
+
+impl Entry {
+    // That of packet p, of 13 in the order of document 01's checks: groups 0 to 3 of green, of red, of blue, then group 4.
+    pub fn of(p: usize) -> Self
+        ensures { (group_of result.group ≡ group_in p) × (colour_of result.colour ≡ colour_in p) }
+    {
+        if p < 12 {
+            Self {
+                group: Group::numbered(p % 4),
+                colour: Colour::indexed(p / 4),
+            }
+        } else {
+            Self {
+                group: Group::Final,
+                colour: Colour::Green,
+            }
+        }
+    }
 }
 
 // A stream whose directory no check refuses.
@@ -22,25 +43,6 @@ pub struct Entry {
 pub struct Listed<'a> {
     pub stream: Stream<'a>,
     pub ghost checked: { directory_refusal stream ≡ 0 },
-}
-
-// The entry count of the block at a byte.
-#[tactic(auto, unfolding(format::specs::Packets::entry_count))]
-fn entry_count(stream: &Stream<'_>, at: usize) -> usize
-    requires { at < 2 ^ 32 }
-    ensures { (result ≡ entry_count stream.now at) × (result < 16) }
-{
-    stream.bits(8 * at, 8) % 16
-}
-
-// The size of the block at a byte.
-#[tactic(auto, unfolding(format::specs::Packets::block_size))]
-fn block_size(stream: &Stream<'_>, at: usize) -> usize
-    requires { at < 2 ^ 32 }
-    ensures { (result ≡ block_size stream.now at) × (result ≤ 32) }
-{
-    let n = entry_count(stream, at);
-    if 5 <= n { 32 } else { 16 }
 }
 
 // Where a block has the length of an entry.
@@ -56,120 +58,131 @@ fn length_place(index: usize) -> usize
     }
 }
 
-// The length in bytes of an entry of the block at a byte.
-#[tactic(auto, unfolding(format::specs::Packets::entry_length))]
-fn entry_length(stream: &Stream<'_>, at: usize, index: usize) -> usize
-    requires { (at < 2 ^ 32) × (index < 16) }
-    ensures { (result ≡ entry_length stream.now at index) × (result < 2 ^ 28) }
-{
-    stream.bits(8 * (at + length_place(index)), 24) * 16
+// The block of a group: the byte where it starts.
+#[derive(Clone, Copy)]
+pub struct Block<'s, 'a> {
+    stream: &'s Stream<'a>,
+    group: usize,
+    at: usize,
+    ghost in_groups: { group < 5 },
+    ghost place: { at ≡ block_at stream.now group },
+    ghost low: { at ≤ 48 + group * 32 },
 }
 
-// The block of a group.
-#[tactic(auto, using(format::proofs::DirectoryLaws::block_none, format::proofs::DirectoryLaws::block_on))]
-fn block_at(stream: &Stream<'_>, group: usize) -> usize
-    requires { group < 5 }
-    ensures { (result ≡ block_at stream.now group) × (result < 2 ^ 31) }
-{
-    let mut at = TileStream::DIRECTORY;
-    for i in 0..group {
-        at += block_size(stream, at);
-    }
-    at
-}
-
-// Where the packets of a group start.
-fn group_start(stream: &Stream<'_>, group: usize) -> usize
-    requires { group < 5 }
-    ensures { (result ≡ group_start stream.now group) × (result < 2 ^ 40) }
-{
-    let mut start = TileStream::HEADER;
-    for i in 0..group {
-        start += stream.group_size(i);
-    }
-    start
-}
-
-// The length of the entries before one of the block at a byte.
-fn entries(stream: &Stream<'_>, at: usize, index: usize) -> usize
-    requires { (at < 2 ^ 32) × (index < 16) }
-    ensures { (result ≡ sum (entry_length stream.now at) index) × (result ≤ index * 2 ^ 28) }
-{
-    let mut total = 0;
-    for i in 0..index {
-        total += entry_length(stream, at, i);
-    }
-    total
-}
-
-// Where a packet of a group starts.
-#[tactic(auto, unfolding(format::specs::Packets::packet_start))]
-pub fn packet_start(stream: &Stream<'_>, entry: Entry) -> usize
-    ensures { (result ≡ packet_start stream.now entry.group entry.index) × (result < 2 ^ 41) }
-{
-    group_start(stream, entry.group) + entries(stream, block_at(stream, entry.group), entry.index)
-}
-
-// The length of a packet of a group.
-#[tactic(auto, unfolding(format::specs::Packets::packet_length))]
-pub fn packet_length(stream: &Stream<'_>, entry: Entry) -> usize
-    ensures { (result ≡ packet_length stream.now entry.group entry.index) × (result < 2 ^ 28) }
-{
-    entry_length(stream, block_at(stream, entry.group), entry.index)
-}
-
-// A group has an entry of an index.
-#[tactic(auto, unfolding(format::specs::Packets::has_entry))]
-pub fn check_present(stream: &Stream<'_>, entry: Entry) -> Result<(), Refusal>
-    ensures { code_of result ≡ on (not (has_entry stream.now entry.group entry.index)) 9 }
-{
-    let at = block_at(stream, entry.group);
-    let count = entry_count(stream, at);
-    if count <= entry.index {
-        return Err(Refusal::MissingPacket);
-    }
-    Ok(())
-}
-
-// Each of the first packets of a group lies within the stream.
-fn check_entries(stream: &Stream<'_>, group: usize, count: usize) -> Result<(), Refusal>
-    requires { (group < 5) × (count < 16) }
-    ensures { code_of result ≡ each (entry_refusal stream.now group) count }
-{
-    let at = block_at(stream, group);
-    let mut start = group_start(stream, group);
-    for index in 0..count {
-        let n = entry_length(stream, at, index);
-        if stream.len() < start + n {
-            return Err(Refusal::EntryPastEnd);
+impl<'s, 'a> Block<'s, 'a> {
+    // The block of a group: each starts where the one before it ends.
+    #[tactic(auto, using(format::proofs::DirectoryLaws::block_none, format::proofs::DirectoryLaws::block_on))]
+    pub fn of(stream: &'s Stream<'a>, group: usize) -> Self
+        requires { group < 5 }
+        ensures { (result.stream.now ≡ stream.now) × (result.group ≡ group) }
+    {
+        let mut at = TileStream::DIRECTORY;
+        for i in 0..group {
+            let before = Self {
+                stream,
+                group: i,
+                at,
+            };
+            at += before.size();
         }
-        start += n;
+        Self { stream, group, at }
     }
-    Ok(())
-}
 
-// A group: its block, its entries, their length.
-#[tactic(auto, using(refusals::proofs::Laws::exits_first, format::proofs::DirectoryLaws::lengths_read), unfolding(format::specs::Refusals::group_refusal))]
-fn check_group(stream: &Stream<'_>, group: usize) -> Result<(), Refusal>
-    requires { group < 5 }
-    ensures { code_of result ≡ group_refusal stream.now group }
-{
-    let at = block_at(stream, group);
-    if stream.len() < at + 16 {
-        return Err(Refusal::DirectoryTooShort);
+    // How many entries it has.
+    #[tactic(auto, unfolding(format::specs::Packets::entry_count))]
+    pub fn count(&self) -> usize
+        ensures { (result ≡ entry_count self.now.stream.now self.now.at) × (result < 16) }
+    {
+        self.stream.bits(8 * self.at, 8) % 16
     }
-    let count = entry_count(stream, at);
-    if 9 < count {
-        return Err(Refusal::TooManyEntries);
+
+    // Its size in bytes.
+    #[tactic(auto, unfolding(format::specs::Packets::block_size))]
+    fn size(&self) -> usize
+        ensures { (result ≡ block_size self.now.stream.now self.now.at) × (result ≤ 32) }
+    {
+        if 5 <= self.count() { 32 } else { 16 }
     }
-    if stream.len() < at + block_size(stream, at) {
-        return Err(Refusal::DirectoryTooShort);
+
+    // The length in bytes of the packet of an entry.
+    #[tactic(auto, unfolding(format::specs::Packets::entry_length))]
+    fn length(&self, index: usize) -> usize
+        requires { index < 16 }
+        ensures { (result ≡ entry_length self.now.stream.now self.now.at index) × (result < 2 ^ 28) }
+    {
+        self.stream.bits(8 * (self.at + length_place(index)), 24) * 16
     }
-    check_entries(stream, group, count)?;
-    if stream.group_size(group) < entries(stream, at, count) {
-        return Err(Refusal::EntriesPastGroup);
+
+    // The length of the packets of its first entries.
+    fn lengths(&self, count: usize) -> usize
+        requires { count < 16 }
+        ensures { (result ≡ sum (entry_length self.now.stream.now self.now.at) count) × (result ≤ count * 2 ^ 28) }
+    {
+        let mut total = 0;
+        for i in 0..count {
+            total += self.length(i);
+        }
+        total
     }
-    Ok(())
+
+    // Where the packets of its group start.
+    fn start(&self) -> usize
+        ensures { (result ≡ group_start self.now.stream.now self.now.group) × (result < 2 ^ 40) }
+    {
+        let mut start = TileStream::HEADER;
+        for i in 0..self.group {
+            start += self.stream.group_size(i);
+        }
+        start
+    }
+
+    // The packet of an entry: a part of the stream itself, which may be too short for a packet's header.
+    #[tactic(auto, unfolding(format::specs::Packets::packet_start, format::specs::Packets::packet_length, format::specs::Packets::packet_of))]
+    pub fn packet(&self, index: usize) -> &'a [u8]
+        requires { (index < 16) × (packet_start self.now.stream.now self.now.group index + packet_length self.now.stream.now self.now.group index ≤ length self.now.stream.now) }
+        ensures { result.now ≡ packet_of self.now.stream.now self.now.group index }
+    {
+        let start = self.start() + self.lengths(index);
+        &self.stream.bytes()[start..start + self.length(index)]
+    }
+
+    // Each of its first packets lies within the stream.
+    fn check_entries(&self, count: usize) -> Result<(), Refusal>
+        requires { count < 16 }
+        ensures { code_of result ≡ each (entry_refusal self.now.stream.now self.now.group) count }
+    {
+        let mut start = self.start();
+        for index in 0..count {
+            let n = self.length(index);
+            if self.stream.len() < start + n {
+                return Err(Refusal::EntryPastEnd);
+            }
+            start += n;
+        }
+        Ok(())
+    }
+
+    // The block itself, its entries, their length.
+    #[tactic(auto, using(refusals::proofs::Laws::exits_first, format::proofs::DirectoryLaws::lengths_read), unfolding(format::specs::Refusals::group_refusal))]
+    fn check(&self) -> Result<(), Refusal>
+        ensures { code_of result ≡ group_refusal self.now.stream.now self.now.group }
+    {
+        if self.stream.len() < self.at + 16 {
+            return Err(Refusal::DirectoryTooShort);
+        }
+        let count = self.count();
+        if 9 < count {
+            return Err(Refusal::TooManyEntries);
+        }
+        if self.stream.len() < self.at + self.size() {
+            return Err(Refusal::DirectoryTooShort);
+        }
+        self.check_entries(count)?;
+        if self.stream.group_size(self.group) < self.lengths(count) {
+            return Err(Refusal::EntriesPastGroup);
+        }
+        Ok(())
+    }
 }
 
 // The five groups in turn.
@@ -179,7 +192,7 @@ pub fn parse_directory<'a>(stream: Stream<'a>) -> Result<Listed<'a>, Refusal>
     ensures same { IfOk result (λ l. l.stream ≡ stream.entry) }
 {
     for group in 0..5 {
-        check_group(&stream, group)?;
+        Block::of(&stream, group).check()?;
     }
     Ok(Listed { stream })
 }

@@ -5,7 +5,7 @@ use Rattle.lists.proofs.Laid.{length-laid, laid_out}
 use Rattle.ring.specs.declared.Rows.{Rows}
 use Rattle.ring.specs.Ring.{low_pair, high_pair, end_pair}
 use Rattle.passes.specs.declared.Level.{Level}
-use Rattle.passes.specs.declared.Pass.{Pass}
+use Rattle.passes.specs.declared.pass.Pass.{Pass}
 use Rattle.passes.specs.declared.Turn.{Turn}
 use Rattle.passes.specs.Level.{TwoSlots, Stands, LowsAt, HighsAt, Holds, lo_l, hi_l, passed_two, pair_at, pairs_in}
 use Rattle.passes.specs.Turn.{low_beside, Begun, Ready, pair_out}

@@ -2,7 +2,7 @@
 use Rattle.std.specs.Prelude.{Bool, true, false, cond, List, ◌++◌, ℕ, ◌-◌, ◌*◌, ◌≤◌, ◌<◌, min, length, ℤ}
 use Rattle.ring.specs.Ring.{along_row}
 use Rattle.passes.specs.declared.Level.{Level}
-use Rattle.passes.specs.declared.Pass.{Pass}
+use Rattle.passes.specs.declared.pass.Pass.{Pass}
 use Rattle.passes.specs.declared.Turn.{Turn}
 use Rattle.passes.specs.Level.{Stands, TwoSlots, HighsAt, Holds, lo_e, hi_e, lo_l, hi_l}
 
@@ -17,7 +17,7 @@ Begun false g m w y l a = y < g.h → Holds l a g.c (lo_e g w y) (hi_e g w y)
 
 -- all rows of a pass stand within n numbers
 abbrev pub Lifted : Pass → ℕ → Type 0
-Lifted p n = (p.g.h ≤ p.m) × Stands p.g p.m n
+Lifted p n = Stands p.g p.m n
 
 -- a turn of a pass over w, with a ring l
 pub record Ready (p : Pass) (w l : List ℤ) (t : Turn) : Type 0 where

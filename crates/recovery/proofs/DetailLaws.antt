@@ -1,15 +1,7 @@
 -- Green's details in group 4's packet, which takes the scratch. Assumes nothing.
-use mathlib.Core.Path.{◌≡◌, refl, sym, ap, ◌∙◌, subst, transport}
-use mathlib.Core.Bool.{Bool, true, false, cond}
-use mathlib.Core.List.{List}
-use mathlib.Core.Logic.{inl, inr, ⊎_elim}
-use Prim.Native.Nat.{ℕ, ◌+◌, ◌*◌, ◌/◌, ◌≤◌, ◌<◌}
-use native.Mathlib.Nat.{mul-le-mul_right}
-use native.Mathlib.Omega.{arith}
-use lib.Dec.{ltb}
-use lib.IntN.{ℤ, pos}
-use lib.ListN.{length, length-replicate}
-use borrow.Author.Tests.{ltb-true, ltb-false}
+use Rattle.std.proofs.Common.{◌≡◌, refl, sym, ap, ◌∙◌, subst, Bool, true, false, cond, List, inl, inr, ⊎_elim, ℕ, ◌+◌, ◌*◌, ◌/◌, ◌≤◌, ◌<◌, mul-le-mul_right, arith, ltb, ℤ, pos, length, ltb-true, ltb-false}
+use mathlib.Core.Path.{transport}
+use Rattle.std.proofs.lemmas.List.{length-replicate}
 use Rattle.wrap32.proofs.Laws.{of-cond}
 use Rattle.lists.specs.Lists.{Apart, part, put_at, tab, laid}
 use Rattle.lists.proofs.Tab.{length-tab, length-put, get_or-tab}
@@ -32,7 +24,7 @@ use Rattle.undoing.proofs.RowLaws.{row_before}
 use Rattle.returning.specs.Return.{Held, packet_size, Numbers}
 use Rattle.format.proofs.TurnLaws.{each_same}
 use Rattle.returning.proofs.Recovered.{nothing, numbers-none, details-numbers, details-picked}
-use Rattle.recovery.specs.Recovered.{scratch_at, scratch_size, Block, DetailsBack}
+use Rattle.recovery.specs.Recovered.{scratch_at, scratch_size, Front, DetailsBack}
 use Rattle.recovery.proofs.IndexLaws.{packet-takes}
 use Rattle.recovery.proofs.PlaneLaws.{halves}
 
@@ -55,7 +47,7 @@ chosen_is false y = refl
 chosen_is true y = refl
 
 -- ---- green's details in group 4's packet
-module _ (z : Plan) (n : ℕ) (k : Block z 0 n) (fits : Fits z (scratch_at z)) (plane before mid after : List ℤ) (long : length before ≡ n) (clear : mid ≡ put_at before (scratch_at z) (zeros (64 * unit_of z))) where
+module _ (z : Plan) (n : ℕ) (k : Front z 0 n) (fits : Fits z (scratch_at z)) (plane before mid after : List ℤ) (long : length before ≡ n) (clear : mid ≡ put_at before (scratch_at z) (zeros (64 * unit_of z))) where
   abbrev half : ℕ
   half = z.w / 2
 

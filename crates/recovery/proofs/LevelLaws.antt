@@ -1,13 +1,6 @@
 -- A level undone in the scratch, its bands back in their packet. Assumes nothing.
-use mathlib.Core.Path.{◌≡◌, refl, sym, ap, ◌∙◌, subst}
-use mathlib.Core.Bool.{Bool}
-use mathlib.Core.List.{List, ◌++◌}
-use mathlib.Core.Logic.{inr, ⊎_elim}
-use Prim.Native.Nat.{ℕ, ◌+◌, ◌-◌, ◌*◌, ◌≤◌, ◌<◌}
-use native.Mathlib.Nat.{mul-le-mul_right}
-use native.Mathlib.Omega.{arith}
-use lib.IntN.{ℤ, pos}
-use lib.ListN.{length, take, drop, length-replicate}
+use Rattle.std.proofs.Common.{◌≡◌, refl, sym, ap, ◌∙◌, subst, Bool, List, ◌++◌, inr, ⊎_elim, ℕ, ◌+◌, ◌-◌, ◌*◌, ◌≤◌, ◌<◌, mul-le-mul_right, arith, ℤ, pos, length, take, drop}
+use Rattle.std.proofs.lemmas.List.{length-replicate}
 use Rattle.lists.specs.Lists.{Apart, part, put_at}
 use Rattle.lists.proofs.Part.{part-put-in, part-put-out}
 use Rattle.lists.proofs.Tab.{length-put, length_part}

@@ -1,14 +1,5 @@
 -- Planes as they go into the work slice, and green's details in group 4's packet. Assumes nothing.
-use mathlib.Core.Path.{◌≡◌, refl, sym, ap, ◌∙◌, subst}
-use mathlib.Core.Bool.{Bool, true, false}
-use mathlib.Core.List.{List}
-use mathlib.Core.Logic.{inl, inr, ⊎_elim}
-use Prim.Native.Nat.{ℕ, ◌+◌, ◌*◌, ◌/◌, ◌≤◌, ◌<◌}
-use native.Mathlib.Nat.{mul-le-mul_right, mul_comm, mul_assoc}
-use native.Mathlib.Omega.{arith}
-use lib.IntN.{ℤ, pos}
-use lib.ListN.{length, get_or, take, length-take}
-use borrow.Author.Tests.{le-ltb}
+use Rattle.std.proofs.Common.{◌≡◌, refl, sym, ap, ◌∙◌, subst, Bool, true, false, List, inl, inr, ⊎_elim, ℕ, ◌+◌, ◌*◌, ◌/◌, ◌≤◌, ◌<◌, mul-le-mul_right, mul_comm, mul_assoc, arith, ℤ, pos, length, get_or, take, length-take, le-ltb}
 use Rattle.lists.specs.Lists.{Apart, part, put_at, tab, laid}
 use Rattle.lists.proofs.Tab.{length-tab, tab-same, part-tab, length-put}
 use Rattle.lists.proofs.Part.{part-put-within, part-put-out, part-part}
@@ -19,7 +10,7 @@ use Rattle.passes.specs.declared.Plan.{Plan}
 use Rattle.passes.specs.Plan.{unit_of}
 use Rattle.undoing.specs.Down.{detail_at, DetailsStand}
 use Rattle.undoing.proofs.RowLaws.{row_before, dense-in}
-use Rattle.recovery.specs.Recovered.{scratch_at, Block, IndexRows}
+use Rattle.recovery.specs.Recovered.{scratch_at, Front, IndexRows}
 
 -- ---- rows one behind the other
 module _ (to c count : ℕ) (f : ℕ → List ℤ) (l : List ℤ) (each : (y : ℕ) → length (f y) ≡ c) (room : to + count * c ≤ length l) where
@@ -38,7 +29,7 @@ pub rows-most : (g : Bool) (n : ℕ) → plane_rows g n ≤ 8 * n
 rows-most false n = omega arith
 rows-most true n = omega arith
 
-module _ (z : Plan) (place n : ℕ) (k : Block z place n) where
+module _ (z : Plan) (place n : ℕ) (k : Front z place n) where
   abbrev c : ℕ
   c = z.w / 2
 
@@ -93,7 +84,7 @@ module _ (z : Plan) (place n : ℕ) (k : Block z place n) where
         (⊎_elim (λ (p : s + m ≤ place). inl p) (λ (p : place + 64 * unit_of z ≤ s). inr (omega (arith, plane-in))) q))
 
 -- ---- green's averages
-module _ (z : Plan) (n : ℕ) (k : Block z 0 n) (plane before : List ℤ) (long : length before ≡ n) where
+module _ (z : Plan) (n : ℕ) (k : Front z 0 n) (plane before : List ℤ) (long : length before ≡ n) where
   abbrev half : ℕ
   half = z.w / 2
 

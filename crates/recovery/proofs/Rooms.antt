@@ -1,18 +1,11 @@
 -- The rows of each level lie in the scratch, and a block's packets before it. Assumes nothing.
-use mathlib.Core.Path.{◌≡◌, refl, sym, ap, ◌∙◌, subst}
-use mathlib.Core.Bool.{Bool, true, false, cond}
-use mathlib.Core.List.{List}
-use mathlib.Core.Logic.{inl, inr}
-use Prim.Native.Nat.{ℕ, suc, ◌+◌, ◌-◌, ◌*◌, ◌/◌, ◌^◌, ◌≤◌, ◌<◌}
-use native.Mathlib.Nat.{mul-le-mul_right, mul_comm, mul_assoc, suc-mul}
-use native.Mathlib.Omega.{arith}
-use lib.IntN.{ℤ, pos}
-use lib.ListN.{length, length-replicate}
+use Rattle.std.proofs.Common.{◌≡◌, refl, sym, ap, ◌∙◌, subst, Bool, true, false, cond, List, inl, inr, ℕ, suc, ◌+◌, ◌-◌, ◌*◌, ◌/◌, ◌^◌, ◌≤◌, ◌<◌, mul-le-mul_right, mul_comm, mul_assoc, suc-mul, arith, ℤ, pos, length}
+use Rattle.std.proofs.lemmas.List.{length-replicate}
 use Rattle.lists.specs.Lists.{Apart, part, put_at}
 use Rattle.lists.proofs.Tab.{length-put}
 use Rattle.lists.proofs.Part.{part-put-in, part-put-out}
 use Rattle.format.specs.Coefficients.{zeros}
-use Rattle.format.specs.Lifting.{Plane, low_leads, Shape}
+use Rattle.format.specs.Lifting.{Plane, Shape}
 use Rattle.format.specs.Sizes.{Level, l1, l2, l3, base, detail, multiplier, columns}
 use Rattle.format.specs.Table.{height, lead, highs}
 use Rattle.format.proofs.Exact.{shape, rows-after, after-most}
@@ -25,7 +18,7 @@ use Rattle.returning.specs.Return.{Held, packet_size, BaseBeside, BaseGiven, Bas
 use Rattle.returning.proofs.Recovered.{numbers-none}
 use Rattle.undoing.specs.Down.{Within, RowsApart, lead_of, low_at}
 use Rattle.undoing.proofs.RowLaws.{within_all, rows-beside, rows-regions}
-use Rattle.recovery.specs.Recovered.{scratch_at, scratch_size, ll_place, ll_step, step_in, to_in, From, Block, LowRows, none, StepsBack}
+use Rattle.recovery.specs.Recovered.{scratch_at, scratch_size, ll_place, ll_step, step_in, to_in, From, Front, LowRows, none, StepsBack}
 use Rattle.recovery.proofs.LevelLaws.{low-row, low-in}
 use Rattle.recovery.proofs.IndexLaws.{packet-takes}
 
@@ -38,10 +31,7 @@ level-lead true l1 = refl
 level-lead true l2 = refl
 level-lead true l3 = refl
 
-pub lead_low : (g : Bool) → lead g l3 ≡ low_leads
-lead_low g = sym (level-lead g l3)
-
-module _ (z : Plan) (place n : ℕ) (k : Block z place n) where
+module _ (z : Plan) (place n : ℕ) (k : Front z place n) where
   abbrev v : ℕ
   v = z.w / 16
 

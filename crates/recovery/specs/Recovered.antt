@@ -55,7 +55,7 @@ ll_step z l2 = 2 * z.w
 ll_step z l1 = 4 * z.w
 
 -- a plan whose slots hold all records, with a block from `place` on before the scratch, in a work slice of n numbers
-pub record Block (z : Plan) (place n : ℕ) : Type 0 where
+pub record Front (z : Plan) (place n : ℕ) : Type 0 where
   pub fits : Fits z place
   pub all : z.slots ≡ z.n + 1
   pub front : place + 64 * unit_of z ≤ scratch_at z

@@ -12,10 +12,10 @@ ghost use Rattle.format.specs.Recovery.{read_plane, l_of};
 ghost use Rattle.format.specs.Tile.{slice};
 ghost use Rattle.passes.specs.Plan.{unit_of, Fits};
 ghost use Rattle.levels.specs.Bands.{level_of};
-ghost use Rattle.recovery.specs.Recovered.{Ready, row_refused, Block, scratch_at, ll_place, step_in, to_in, undoing_of, From, IndexRows, LevelBack, StepsBack, IndexBack, Back, ColourBack, DetailsBack, Room, Recovered};
+ghost use Rattle.recovery.specs.Recovered.{Ready, row_refused, Front, scratch_at, ll_place, step_in, to_in, undoing_of, From, IndexRows, LevelBack, StepsBack, IndexBack, Back, ColourBack, DetailsBack, Room, Recovered};
 
 use fields::rows_of;
-use levels::Stage;
+use levels::{Block, Stage};
 use passes::{GROUP_2, GROUP_3, Plan};
 use refusals::Refusal;
 use returning::{Undone, bands_back, base_back, check_row};
@@ -33,6 +33,7 @@ struct Undoing {
     c: usize,
     h: usize,
     m: usize,
+    // A truth of the table's line, which picks where lows and highs start: an enum would choose there too.
     leads: bool,
     t: usize,
     to: usize,
@@ -41,13 +42,14 @@ struct Undoing {
 }
 
 impl Undoing {
-    // That of a level of the block from `at` on: level 3 into the scratch from its start on, the others behind the rows that they come from.
-    fn of_level(s: Stage, z: Plan, at: usize, from: usize) -> Undoing
-        requires { Fits z at × (z.slots ≡ z.n + 1) × (to_in z (level_of s) from < 2 ^ 63) }
-        ensures { result ≡ undoing_of z at (level_of s) from }
+    // That of a level of block b: level 3 into the scratch from its start on, the others behind the rows that they come from.
+    fn of_level(s: Stage, b: Block, from: usize) -> Undoing
+        requires { (b.z.slots ≡ b.z.n + 1) × (to_in b.z (level_of s) from < 2 ^ 63) }
+        ensures { result ≡ undoing_of b.z b.at (level_of s) from }
     {
+        let Block { z, at } = b;
         let u = z.unit();
-        let g = s.level(z, at);
+        let g = s.level(b);
         let (leads, t, to, a, b) = match s {
             Stage::First => (z.guarded, 2 * z.w, from + 2 * g.c, at + u, at + GROUP_2 * u),
             Stage::Second => (
@@ -111,44 +113,44 @@ impl Undoing {
     }
 }
 
-// A level of the block from `at` on, from the rows of what came out of it. Where its ll stands, and what refuses its bands.
+// A level of block b, from the rows of what came out of it. Where its ll stands, and what refuses its bands.
+// That block and scratch lie in the work slice is a clause (`Front`), and so is, below, how long a plane is: they are lent for one call.
 fn level_back(
     work: &mut [i32],
     s: Stage,
-    z: Plan,
-    at: usize,
+    b: Block,
     from: usize,
     odd: bool,
 ) -> (usize, Result<(), Refusal>)
-    requires { Block z at (length work.old) × From z (level_of s) from }
-    ensures { (result.0 ≡ ll_place z (level_of s)) × LevelBack z at (level_of s) odd from (step_in z (level_of s)) work.old work.new (code_of result.1) }
+    requires { Front b.z b.at (length work.old) × From b.z (level_of s) from }
+    ensures { (result.0 ≡ ll_place b.z (level_of s)) × LevelBack b.z b.at (level_of s) odd from (step_in b.z (level_of s)) work.old work.new (code_of result.1) }
 {
-    let g = Undoing::of_level(s, z, at, from);
+    let g = Undoing::of_level(s, b, from);
     let rows = g.undo(work, from);
-    let checked = bands_back(work, s, z, at, rows, odd);
+    let checked = bands_back(work, s, b, rows, odd);
     (rows.low, checked)
 }
 
 // Band 0, from ll of level 1 where it stands.
-fn steps_back(work: &mut [i32], z: Plan, at: usize, from: usize) -> Result<(), Refusal>
-    requires { Block z at (length work.old) × (from ≡ ll_place z l1) }
-    ensures { StepsBack z at work.old work.new (code_of result) }
+fn steps_back(work: &mut [i32], b: Block, from: usize) -> Result<(), Refusal>
+    requires { Front b.z b.at (length work.old) × (from ≡ ll_place b.z l1) }
+    ensures { StepsBack b.z b.at work.old work.new (code_of result) }
 {
-    let b = at + z.unit();
-    work[at..b].fill(0);
-    base_back(work, z, at, from, 4 * z.w)
+    let end = b.at + b.z.unit();
+    work[b.at..end].fill(0);
+    base_back(work, b, from, 4 * b.z.w)
 }
 
-// All levels of the block from `at` on, from the rows of what came out of them.
-fn index_back(work: &mut [i32], z: Plan, at: usize, from: usize, odd: bool) -> Result<(), Refusal>
-    requires { Block z at (length work.old) × (from + 64 * unit_of z ≤ scratch_at z) }
-    ensures { IndexBack z at odd from work.old work.new (code_of result) }
+// All levels of block b, from the rows of what came out of them.
+fn index_back(work: &mut [i32], b: Block, from: usize, odd: bool) -> Result<(), Refusal>
+    requires { Front b.z b.at (length work.old) × (from + 64 * unit_of b.z ≤ scratch_at b.z) }
+    ensures { IndexBack b.z b.at odd from work.old work.new (code_of result) }
 {
-    let (ll_3, a) = level_back(work, Stage::Third, z, at, from, odd);
-    let (ll_2, b) = level_back(work, Stage::Second, z, at, ll_3, false);
-    let (ll_1, c) = level_back(work, Stage::First, z, at, ll_2, false);
-    let d = steps_back(work, z, at, ll_1);
-    a.and(b).and(c).and(d)
+    let (ll_3, three) = level_back(work, Stage::Third, b, from, odd);
+    let (ll_2, two) = level_back(work, Stage::Second, b, ll_3, false);
+    let (ll_1, one) = level_back(work, Stage::First, b, ll_2, false);
+    let steps = steps_back(work, b, ll_1);
+    three.and(two).and(one).and(steps)
 }
 
 // Refuses rows of c numbers, `count` of them, from `from` on, with a gap of rows behind the first e, in which a number is too large.
@@ -170,9 +172,10 @@ fn check_rows(
     Ok(())
 }
 
-// Green's averages, one row behind the other in red's block, through details in the scratch.
+// Green's averages, one row behind the other in red's block, through details in the scratch. Plan and slices go side by side, as the two are lent for
+// one call.
 fn average_rows(work: &mut [i32], z: Plan, plane: &[i32])
-    requires { Block z 0 (length work.old) × (plane_rows z.guarded z.n * z.w ≤ length plane.now) }
+    requires { Front z 0 (length work.old) × (plane_rows z.guarded z.n * z.w ≤ length plane.now) }
     ensures index_rows { IndexRows z (64 * unit_of z) (l_of (plane_rows z.guarded z.n) (z.w / 2) (read_plane z.w plane.now)) work.new }
     ensures same_length { length work.new ≡ length work.old }
 {
@@ -185,26 +188,27 @@ fn average_rows(work: &mut [i32], z: Plan, plane: &[i32])
 
 // Green's coefficients of groups 0 to 3.
 fn green_back(work: &mut [i32], z: Plan, plane: &[i32]) -> Result<(), Refusal>
-    requires { Block z 0 (length work.old) × (plane_rows z.guarded z.n * z.w ≤ length plane.now) }
+    requires { Front z 0 (length work.old) × (plane_rows z.guarded z.n * z.w ≤ length plane.now) }
     ensures back { Back z 0 green (l_of (plane_rows z.guarded z.n) (z.w / 2) (read_plane z.w plane.now)) work.new (code_of result) }
     ensures same_length { length work.new ≡ length work.old }
 {
     let u = z.unit();
     average_rows(work, z, plane);
-    index_back(work, z, 0, INDEX * u, false)
+    index_back(work, Block { z, at: 0 }, INDEX * u, false)
 }
 
-// Red's coefficients, or blue's, in the block from `at` on.
-fn colour_back(work: &mut [i32], z: Plan, at: usize, plane: &[i32]) -> Result<(), Refusal>
-    requires { Block z at (length work.old) × (plane_rows z.guarded z.n * (z.w / 2) ≤ length plane.now) }
-    ensures { ColourBack z at plane.now work.old work.new (code_of result) }
+// Red's coefficients, or blue's, in block b.
+fn colour_back(work: &mut [i32], b: Block, plane: &[i32]) -> Result<(), Refusal>
+    requires { Front b.z b.at (length work.old) × (plane_rows b.z.guarded b.z.n * (b.z.w / 2) ≤ length plane.now) }
+    ensures { ColourBack b.z b.at plane.now work.old work.new (code_of result) }
 {
+    let Block { z, at } = b;
     let n = rows_of(z.n, z.guarded) * (z.w / 2);
     work[at..at + n].copy_from_slice(&plane[..n]);
-    index_back(work, z, at, at, true)
+    index_back(work, b, at, true)
 }
 
-// How many rows of group 4's packet the final green uses first, and how many behind them it skips.
+// How many rows of group 4's packet the final green uses first, and how many behind them it skips: two numbers, by a truth of the document.
 fn kept(guarded: bool) -> (usize, usize)
     ensures { (result.0 ≡ cond guarded 2 4) × (result.1 ≡ cond guarded 6 4) }
 {
@@ -213,7 +217,7 @@ fn kept(guarded: bool) -> (usize, usize)
 
 // Green's details in group 4's packet.
 fn details_back(work: &mut [i32], z: Plan, plane: &[i32]) -> Result<(), Refusal>
-    requires { Block z 0 (length work.old) × Fits z (scratch_at z) × (plane_rows z.guarded z.n * z.w ≤ length plane.now) }
+    requires { Front z 0 (length work.old) × Fits z (scratch_at z) × (plane_rows z.guarded z.n * z.w ≤ length plane.now) }
     ensures { DetailsBack z plane.now work.old work.new (code_of result) }
 {
     let u = z.unit();
@@ -227,7 +231,7 @@ fn details_back(work: &mut [i32], z: Plan, plane: &[i32]) -> Result<(), Refusal>
     check_rows(work, at, e, gap, c, rows)
 }
 
-// The coefficients of three planes: green's block, red's, blue's, then group 4. Refuses a number out of range.
+// The coefficients of three planes, which go side by side as C lends them: green's block, red's, blue's, then group 4. Refuses a number out of range.
 pub fn recover(
     work: &mut [i32],
     z: Plan,
@@ -240,10 +244,12 @@ pub fn recover(
     ensures recovered { Recovered z (slice full.now red.now blue.now) work.new }
     ensures same_length { length work.new ≡ length work.old }
 {
-    let u = z.unit();
+    let n = INDEX * z.unit();
+    let second = Block { z, at: n };
+    let third = Block { z, at: 2 * n };
     let a = green_back(work, z, full);
-    let b = colour_back(work, z, INDEX * u, red);
-    let c = colour_back(work, z, 2 * INDEX * u, blue);
+    let b = colour_back(work, second, red);
+    let c = colour_back(work, third, blue);
     let d = details_back(work, z, full);
     a.and(b).and(c).and(d)
 }

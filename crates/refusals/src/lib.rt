@@ -1,8 +1,9 @@
 // The refusals of documents 01 and 02: each by name, with its number and its words.
 #![tactic(auto)]
 
-ghost use Rattle.std.specs.Prelude.{◌≡◌, ◌≤◌, ◌<◌};
-ghost use Rattle.refusals.specs.Number.{number_of, code_of};
+ghost use Rattle.std.specs.Prelude.{◌≡◌, ◌≤◌, ◌<◌, Some};
+ghost use Rattle.refusals.specs.Number.{number_of};
+ghost use Rattle.refusals.specs.Words.{words_of};
 
 use std::error::Error;
 use std::fmt;
@@ -38,35 +39,19 @@ pub enum Refusal {
     TooLong,
 }
 
-impl Refusal {
-    // Its number in the documents.
-    pub fn number(self) -> u64
-        ensures value { result ≡ number_of self }
-        ensures not_zero { (0 < result) × (result ≤ 26) }
-    {
-        self as u64
-    }
-}
-
+// Its number in the documents, which is the only way to one: never 0, and at most 26.
 impl From<Refusal> for u64 {
-    ghost from_gives = { λ r n. n ≡ number_of r };
+    ghost from_gives = { λ r n. (n ≡ number_of r) × (0 < n) × (n ≤ 26) };
 
     fn from(refusal: Refusal) -> u64 {
-        refusal.number()
+        refusal as u64
     }
 }
 
-// What C is told of a check: 0 where it passed, else the number of its refusal.
-pub fn code(checked: Result<(), Refusal>) -> u64
-    ensures { result ≡ code_of checked }
-{
-    match checked {
-        Ok(()) => 0,
-        Err(refusal) => refusal.number(),
-    }
-}
-
+// In words, for callers of the crates that print a refusal: no program here does, and C has the numbers.
 impl fmt::Display for Refusal {
+    ghost output = { λ r. Some (words_of r) };
+
     fn fmt<W: fmt::Write>(&self, f: &mut fmt::Formatter<W>) -> fmt::Result {
         f.write_str(match self {
             Refusal::NoTile => "no tile located in the strip",
@@ -106,4 +91,5 @@ impl fmt::Display for Refusal {
     }
 }
 
+// For callers that hand a refusal on as an error of their own.
 impl Error for Refusal {}

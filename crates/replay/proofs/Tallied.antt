@@ -1,6 +1,5 @@
 -- Laws of a tally. Assumes nothing.
-use Rattle.std.proofs.Common.{◌≡◌, ℕ, zero, suc, ◌+◌, ◌≤◌, ◌<◌, List, [], ◌∷◌, length, get_or, arith}
-use lib.ListN.{set}
+use Rattle.std.proofs.Common.{◌≡◌, ℕ, zero, suc, ◌+◌, ◌≤◌, ◌<◌, List, [], ◌∷◌, length, get_or, arith, set}
 use Rattle.replay.specs.declared.Count.{Count}
 use Rattle.replay.specs.Tally.{total, counts_of}
 

@@ -1,7 +1,6 @@
 -- What comparing numbers tells. Assumes nothing.
-use Rattle.std.proofs.Common.{◌≡◌, ℕ, ◌<◌, List, Bool, true, false, length, get_or, refl, ap, ◌∙◌, ℤ, pos, MatchBool, arith, zero-add}
-use mathlib.Core.Bool.{false≢true}
-use mathlib.Core.Logic.{◌≢◌}
+use Rattle.std.proofs.Common.{◌≡◌, ℕ, ◌<◌, List, Bool, true, false, length, get_or, refl, ap, ◌∙◌, ℤ, pos, MatchBool, arith, zero-add, ◌≢◌}
+use Rattle.std.proofs.lemmas.Bool.{false≢true}
 use Rattle.lists.proofs.Tab.{tab-of, tab-same, get_or-tab}
 use Rattle.std.specs.List.{range_with_len, AllWithin, HoldsAt}
 use Rattle.std.proofs.lemmas.List.FromFn.{length-range_with_len, get_or-range_with_len}

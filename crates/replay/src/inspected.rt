@@ -6,7 +6,7 @@ use crate::vectors::{PATTERN, right_numbers};
 use inspection::{Inspected, inspect_record};
 use refusals::Refusal;
 
-// An answer in numbers; those that it does not have are 0.
+// An answer in numbers; those that it does not have are 0. It is no `arw6::Inspected`, which is C's and private there.
 #[derive(Clone, Copy, Default, PartialEq)]
 struct Answer {
     refusal: u64,
@@ -40,7 +40,7 @@ impl Answer {
             },
             Ok(None) => Self::default(),
             Err(refusal) => Self {
-                refusal: refusal.number(),
+                refusal: u64::from(refusal),
                 ..Self::default()
             },
         }
@@ -89,6 +89,7 @@ impl Case for Record {
     }
 
     fn is_right(&self, stream: &[u8], want: &[u8]) -> bool {
+        // An array, as the words of a case are (`kind`).
         let mut band = [PATTERN; 1024];
         let n = self.lent as usize;
         if band.len() < n {

@@ -1,9 +1,11 @@
 // The kinds of cases, and what a kind does with its cases.
-ghost use Rattle.std.specs.Prelude.{◌≤◌};
+ghost use Rattle.std.specs.Prelude.{◌≤◌, Some};
+ghost use Rattle.replay.specs.Kinds.{KindOf, name_of};
 
 use std::fmt;
 
-// The words that lead a case, the first the length of its input; those that its kind does not have are 0.
+// The words that lead a case, the first the length of its input; those that its kind does not have are 0. (Here and below, what a case needs stands in
+// arrays: no case goes uncounted for want of memory.)
 pub type Words = [u32; 11];
 
 // The kinds, in the order of their numbers.
@@ -37,6 +39,8 @@ impl Kind {
 impl TryFrom<u32> for Kind {
     type Error = NoKind;
 
+    ghost try_from_gives = { KindOf };
+
     fn try_from(number: u32) -> Result<Kind, NoKind> {
         match number {
             1 => Ok(Kind::Strips),
@@ -52,6 +56,8 @@ impl TryFrom<u32> for Kind {
 }
 
 impl fmt::Display for Kind {
+    ghost output = { λ k. Some (name_of k) };
+
     fn fmt<W: fmt::Write>(&self, f: &mut fmt::Formatter<W>) -> fmt::Result {
         f.write_str(match self {
             Kind::Strips => "strips",

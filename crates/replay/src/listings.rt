@@ -22,6 +22,7 @@ impl Case for Listing {
     }
 
     fn is_right(&self, input: &[u8], want: &[u8]) -> bool {
+        // An array, as the words of a case are (`kind`).
         let mut out = [0u8; 4096];
         let n = listing::respond(input, &mut out);
         &out[..n] == want

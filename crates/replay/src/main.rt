@@ -36,8 +36,8 @@ fn read_words<R: Read>(source: &mut R, n: usize) -> Option<Words>
     requires { n ≤ 11 }
 {
     let mut words = [0u32; 11];
-    for i in 0..n {
-        words[i] = next_word(source)?;
+    for word in &mut words[..n] {
+        *word = next_word(source)?;
     }
     Some(words)
 }

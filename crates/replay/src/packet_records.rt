@@ -1,6 +1,8 @@
 // Records: `coefficients::arw6_packet` on a packet, and the coefficients and the counts that it should give. A case is eight
 // little-endian words (the packet's length, kind, m, columns, records, broken records, spent records, bits), the packet's bytes, and a word
 // for each coefficient.
+ghost use Rattle.std.specs.Prelude.{◌<◌, ◌^◌};
+
 use crate::kind::{Case, Words};
 use crate::vectors::{same, small};
 use coefficients::{PacketCounts, arw6_packet};
@@ -20,10 +22,13 @@ pub struct Packet {
 impl Packet {
     // Whether the answer is the one of the case.
     fn is_counted(&self, counted: PacketCounts) -> bool {
-        counted.together == 1
-            && counted.broken == self.broken as u64
-            && counted.spent == self.spent as u64
-            && counted.bits == self.bits as u64
+        let own = PacketCounts {
+            together: 1,
+            broken: self.broken as u64,
+            spent: self.spent as u64,
+            bits: self.bits as u64,
+        };
+        counted == own
     }
 }
 
@@ -46,12 +51,15 @@ impl Case for Packet {
     }
 
     // A word for each coefficient.
-    fn answer_length(&self) -> usize {
+    fn answer_length(&self) -> usize
+        ensures { result < 2 ^ 34 }
+    {
         let in_record = self.kind as usize * self.m as usize * self.columns as usize;
         4 * (self.records as usize * in_record)
     }
 
     fn is_right(&self, packet: &[u8], want: &[u8]) -> bool {
+        // An array, as the words of a case are (`kind`).
         let mut band = [1i32; 1024];
         let n = want.len() / 4;
         if band.len() < n {

@@ -23,13 +23,13 @@ impl Refused {
             self.blue as usize,
             self.work as usize,
         );
-        need.err().map_or(0, |r| r.number()) == self.number as u64
+        need.err().map_or(0, u64::from) == self.number as u64
     }
 
     // Whether the stream's lengths are refused with the case's number, where that is 2 or 3, and else with none.
     fn is_measured(&self, stream: &[u8]) -> bool {
         let number = if 3 < self.number { 0 } else { self.number };
-        lengths_of(stream).err().map_or(0, |r| r.number()) == number as u64
+        lengths_of(stream).err().map_or(0, u64::from) == number as u64
     }
 }
 

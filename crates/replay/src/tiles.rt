@@ -1,6 +1,8 @@
 // Tiles: `tile::decode_stream` on a stream, and its answer and what the four lent slices should hold; and the stream's lengths. A case is
 // eight little-endian words (the stream's length, refusal, width, height, rows, broken records, spent records, bits), the stream's bytes,
 // and a word for each number of green, red and blue. A refused stream has 0 in the last six words, and no planes.
+ghost use Rattle.std.specs.Prelude.{◌<◌, ◌^◌};
+
 use crate::kind::{Case, Words};
 use crate::vectors::{PATTERN, right_numbers, right_work, small};
 use packets::{Lengths, lengths_of};
@@ -55,7 +57,7 @@ impl Tile {
                     self.spent,
                     self.bits,
                 ];
-                refusal.number() == self.refusal as u64 && last == [0; 6]
+                u64::from(refusal) == self.refusal as u64 && last == [0; 6]
             }
         }
     }
@@ -68,16 +70,22 @@ impl Tile {
 
     // Whether an accepted stream's lengths are those of the case: its size and rows, and as many numbers as its planes have.
     fn is_measured(&self, stream: &[u8], want: &[u8]) -> bool {
-        let lengths = Lengths {
-            width: self.width as usize,
-            height: self.height as usize,
-            rows: self.rows as usize,
-            green: want.len() / 8,
-            red: want.len() / 16,
-            blue: want.len() / 16,
-            work: self.work_length(),
-        };
-        self.refusal != 0 || lengths_of(stream) == Ok(lengths)
+        match lengths_of(stream) {
+            Ok(need) => self.refusal != 0 || self.needs(need, want),
+            Err(_) => self.refusal != 0,
+        }
+    }
+
+    // Whether these lengths are those of the case.
+    fn needs(&self, need: Lengths, want: &[u8]) -> bool {
+        let size = need.size;
+        size.width == self.width as usize
+            && size.height == self.height as usize
+            && need.rows == self.rows as usize
+            && need.green == want.len() / 8
+            && need.red == want.len() / 16
+            && need.blue == want.len() / 16
+            && need.work == self.work_length()
     }
 }
 
@@ -100,11 +108,13 @@ impl Case for Tile {
     }
 
     // Green has rows · width words, red and blue have half as many each.
-    fn answer_length(&self) -> usize {
+    fn answer_length(&self) -> usize
+        ensures { result < 2 ^ 19 }
+    {
         8 * (small(self.width) as usize * small(self.rows) as usize)
     }
 
-    // Decodes a stream into slices longer than it asks for, and compares.
+    // Decodes a stream into slices longer than it asks for, which are arrays as the words are, and compares.
     fn is_right(&self, stream: &[u8], want: &[u8]) -> bool {
         let mut green = [PATTERN; 1024];
         let mut red = [PATTERN; 512];

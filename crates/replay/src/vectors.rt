@@ -30,12 +30,12 @@ pub fn set_words(numbers: &mut [i32], b: &[u8])
     requires { 4 * length numbers.old ≤ length b.now }
     ensures { numbers.new ≡ tab (length numbers.old) (word_at b.now) }
 {
-    for i in 0..numbers.len() {
-        numbers[i] = number(b, i);
+    for (i, z) in numbers.iter_mut().enumerate() {
+        *z = number(b, i);
     }
 }
 
-// Whether the numbers are the words of b, in two's complement.
+// Whether the numbers are the words of b, in two's complement: by index, as word i goes with number i.
 pub fn same(numbers: &[i32], b: &[u8]) -> bool
     requires { 4 * length numbers.now ≤ length b.now }
     ensures { Tells result numbers.now (word_at b.now) }

@@ -35,12 +35,13 @@ impl Planes {
     fn is_answered(&self, answer: Result<usize, Refusal>) -> bool {
         match answer {
             Ok(length) => self.refusal == 0 && length == self.length as usize,
-            Err(refusal) => refusal.number() == self.refusal as u64 && self.length == 0,
+            Err(refusal) => u64::from(refusal) == self.refusal as u64 && self.length == 0,
         }
     }
 
     // Writes a stream from planes, with as much of work and stream lent as the case says, and compares.
     fn is_written(&self, green: &[i32], red: &[i32], blue: &[i32], want: &[u8]) -> bool {
+        // An array, as the words of a case are (`kind`).
         let mut stream = [BYTE; 4096];
         let mut work = [PATTERN; 4096];
         let numbers = self.work as usize;
@@ -103,6 +104,7 @@ impl Case for Planes {
 
     // The planes stand in the input one after the other.
     fn is_right(&self, input: &[u8], want: &[u8]) -> bool {
+        // An array, as the words of a case are (`kind`).
         let mut planes = [0i32; 2048];
         let n = input.len() / 4;
         let a = self.green as usize;

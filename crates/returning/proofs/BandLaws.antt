@@ -1,11 +1,5 @@
 -- A band's rows at their places in the packet are what recovery gives back. Assumes nothing.
-use mathlib.Core.Path.{◌≡◌, sym, ap, ◌∙◌}
-use mathlib.Core.List.{List}
-use Prim.Native.Nat.{ℕ, ◌+◌, ◌*◌, ◌%◌, ◌≤◌, ◌<◌}
-use native.Mathlib.Nat.{mul-le-mul_right, mod-eq_of_lt}
-use native.Mathlib.Omega.{arith}
-use lib.IntN.{ℤ}
-use lib.ListN.{length}
+use Rattle.std.proofs.Common.{◌≡◌, sym, ap, ◌∙◌, List, ℕ, ◌+◌, ◌*◌, ◌%◌, ◌≤◌, ◌<◌, mul-le-mul_right, mod-eq_of_lt, arith, ℤ, length}
 use Rattle.lists.specs.Lists.{Apart, part}
 use Rattle.lists.proofs.Tab.{length-tab, tab-same}
 use Rattle.lists.proofs.Laid.{length-laid, laid_out, laid_same}

@@ -1,13 +1,5 @@
 -- The steps of level 1's ll in group 0's packet are what recovery gives back. Assumes nothing.
-use mathlib.Core.Path.{◌≡◌, refl, sym, ap, ◌∙◌}
-use mathlib.Core.Bool.{Bool, true, false}
-use mathlib.Core.List.{List}
-use Prim.Native.Nat.{ℕ, ◌+◌, ◌-◌, ◌*◌, ◌/◌, ◌≤◌, ◌<◌}
-use native.Mathlib.Nat.{mul-le-mul_right}
-use native.Mathlib.Omega.{arith}
-use lib.IntN.{ℤ}
-use lib.ListN.{length}
-use mir.Syntax.{w16}
+use Rattle.std.proofs.Common.{◌≡◌, refl, sym, ap, ◌∙◌, Bool, true, false, List, ℕ, ◌+◌, ◌-◌, ◌*◌, ◌/◌, ◌≤◌, ◌<◌, mul-le-mul_right, arith, ℤ, length, w16}
 use mir.Val.{bool_byte}
 use Rattle.wrap32.specs.Cut.{cut, sub_w}
 use Rattle.lists.specs.Lists.{part}
@@ -22,7 +14,7 @@ use Rattle.format.specs.Numbers.{row_of, packet_rows}
 use Rattle.format.proofs.NumberLaws.{place_of, line_back, laid-seek, row-alone}
 use Rattle.passes.specs.declared.Plan.{Plan}
 use Rattle.levels.specs.Block.{group_at}
-use Rattle.returning.specs.Return.{step_of, steps_laid, steps_refused, Movable, Held, packet_size, Numbers, BaseBeside, BaseGiven, base_back, base_fault, BaseReturned}
+use Rattle.returning.specs.Return.{step_of, steps_laid, steps_refused, Held, packet_size, Numbers, BaseGiven, base_back, base_fault, BaseReturned}
 use Rattle.format.proofs.TurnLaws.{each_same}
 use Rattle.returning.proofs.PacketLaws.{packet-flat, packet-room, apart-within, at-line, before-line}
 
@@ -35,10 +27,6 @@ base-height true n = refl
 pub start-is : (g : Bool) → bool_byte g ≡ start g
 start-is false = refl
 start-is true = refl
-
-pub start_small : (g : Bool) → start g ≤ 1
-start_small false = omega arith
-start_small true = omega arith
 
 start-below : (g : Bool) (n y : ℕ) → y < height g n l1 → y + start g < n + 1
 start-below false n y t = omega arith
@@ -70,13 +58,6 @@ module _ (z : Plan) (at from t : ℕ) (work : List ℤ) (held : Held z at (lengt
 
   target : (y : ℕ) → y < count → to + y * cols + cols ≤ length work
   target y b = omega (arith, row_room y b, packet-room z at (length work) held base)
-
-  pub base-movable : BaseBeside z at from t (length work) → Movable (λ y. to + y * cols) cols from t count (length work)
-  base-movable clean = record {
-    target = target;
-    stands = λ y b. (clean y b).0;
-    apart = λ y k b q. apart-within _ _ _ _ _ _ (omega (arith, placed k)) (omega (arith, row_room k q)) (clean y b).1;
-  }
 
   module _ (ll : Plane) (given : BaseGiven z from t ll work) where
     step_is : (y x : ℕ) → y < count → x < cols → step_of (part work (from + y * t) cols) x ≡ sub_w (ll y x) (before (ll y) x)

@@ -1,8 +1,6 @@
 -- The laws of E undone, of the faults of a number, and of checks in turn. Assumes nothing.
-use Rattle.std.proofs.Common.{◌≡◌, refl, sym, ap, ◌∙◌, List, length, drop, Bool, true, false, cond, not, ◌&&◌, ◌⊎◌, inl, inr, ℕ, zero, suc, ◌+◌, ◌/◌, ◌^◌, ◌≤◌, ◌<◌, arith, ltb, ltb-true, ltb-false, true≢false, ℤ, pos, negsuc, neg_ℤ, nat_abs, Option, Some, None, MatchOption, w32, of_z, eq-eqb, ne_eqb, lt-ltb, le-ltb}
-use native.Mathlib.Nat.{eq-or-lt_of_le}
-use lib.Signed.{quot_z, lt_z}
-use mir.Val.{SFits}
+use Rattle.std.proofs.Common.{◌≡◌, refl, sym, ap, ◌∙◌, List, length, drop, Bool, true, false, cond, not, ◌&&◌, ◌⊎◌, inl, inr, ℕ, zero, suc, ◌+◌, ◌/◌, ◌^◌, ◌≤◌, ◌<◌, arith, ltb, ℤ, pos, negsuc, neg_ℤ, nat_abs, Option, Some, None, MatchOption, w32, of_z, eq-eqb, ne_eqb, lt-ltb, le-ltb, eq-or-lt_of_le, SFits}
+use lib.Signed.{quot_z}
 use Rattle.std.specs.Option.{unwrap_or}
 use Rattle.std.proofs.lemmas.List.{get_or-append-add, get_or-drop}
 use Rattle.lists.specs.Lists.{tab, fill}
@@ -31,12 +29,6 @@ fill-here l m x f e =
     rw e (ap (λ (k : ℕ). at (fill l x f) k) n ∙ get_or-append-add (tab x f) (drop x l) 0 (pos 0) ∙ get_or-drop x l 0 (pos 0) ∙ ap (at l) r)
 
 -- ---- E undone: half of e, rounded toward 0, is the only number; -2 ^ 30, whose bits are 3221225472, is too far
-pub edge_back-fits : (odd : Bool) (e : ℤ) → SFits w32 e → SFits w32 (edge_back odd e)
-unfolding edge_back
-edge_back-fits odd e f =
-    of-cond (SFits w32) (eq_z (edge_detail wrapping odd (quot_z e (pos 2))) e && ltb (nat_abs (quot_z e (pos 2))) (2 ^ 30)) (quot_z e (pos 2)) (pos 0)
-    (λ _. half-fits e f) (λ _. omega arith)
-
 neg-near : (m : ℕ) → m ≤ 2 ^ 30 → (of_z w32 (neg_ℤ (pos m)) ≡ 3221225472 → ⊥) → nat_abs (neg_ℤ (pos m)) < 2 ^ 30
 neg-near zero h q = omega arith
 neg-near (suc m) h q = by (eq-or-lt_of_le h)
@@ -127,16 +119,3 @@ value-refused odd e r = by (eq_z (edge_detail wrapping odd (edge_back odd e)) e)
     by : (b : Bool) → MatchOption (cond b (Some (edge_back odd e)) None) (r ≡ 25) (λ v. r ≡ too_large v) → r ≡ (on (not b) 25 ▷ too_large (edge_back odd e))
     by true h = h
     by false h = h
-
--- ---- sizes, as compared with both limits
-pub size_below : (z : ℤ) → lt_z z (negsuc 524286) ≡ true → 25 ≡ too_large z
-size_below (pos n) e = absurd (true≢false (sym e))
-size_below (negsuc n) e = rw (lt-ltb 524287 (suc n) (omega (arith, ltb-true 524286 n e)))
-
-pub size_above : (z : ℤ) → lt_z (pos 524287) z ≡ true → 25 ≡ too_large z
-size_above (pos n) e = rw (lt-ltb 524287 n (omega (arith, ltb-true 524287 n e)))
-size_above (negsuc n) e = absurd (true≢false (sym e))
-
-pub size_none : (z : ℤ) → lt_z z (negsuc 524286) ≡ false → lt_z (pos 524287) z ≡ false → 0 ≡ too_large z
-size_none (pos n) e f = rw (le-ltb 524287 n (omega (arith, ltb-false 524287 n f)))
-size_none (negsuc n) e f = rw (le-ltb 524287 (suc n) (omega (arith, ltb-false 524286 n e)))

@@ -1,6 +1,6 @@
 -- Rows that go to their places one after the other, none from where one goes to. Assumes nothing.
-use Rattle.std.proofs.Common.{◌≡◌, refl, sym, ap, ◌∙◌, List, ◌++◌, ℕ, ◌+◌, ◌-◌, ◌*◌, ◌≤◌, ◌<◌, arith, ℤ, length, take, drop, append_assoc}
-use lib.Seq.{paste, length-take-le, take_at, drop_at, drop-drop}
+use Rattle.std.proofs.Common.{◌≡◌, refl, sym, ap, ◌∙◌, List, ◌++◌, ℕ, ◌+◌, ◌-◌, ◌*◌, ◌≤◌, ◌<◌, arith, ℤ, length, take, drop, append_assoc, length-take-le, take_at, drop_at, drop-drop}
+use lib.Seq.{paste}
 use Rattle.lists.specs.Lists.{part, put_at, laid}
 use Rattle.lists.proofs.Tab.{length_part}
 use Rattle.lists.proofs.Part.{part-put-in}

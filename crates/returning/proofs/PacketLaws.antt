@@ -1,11 +1,5 @@
 -- A packet in its block, and rows that stand apart from it. Assumes nothing.
-use mathlib.Core.Path.{◌≡◌, refl, sym, ap, ◌∙◌}
-use mathlib.Core.List.{List}
-use mathlib.Core.Logic.{⊎_elim, inl, inr}
-use Prim.Native.Nat.{ℕ, zero, suc, ◌+◌, ◌*◌, ◌≤◌, ◌<◌}
-use native.Mathlib.Nat.{mul_assoc}
-use native.Mathlib.Omega.{arith}
-use lib.IntN.{ℤ, pos}
+use Rattle.std.proofs.Common.{◌≡◌, refl, sym, ap, ◌∙◌, List, ⊎_elim, inl, inr, ℕ, zero, suc, ◌+◌, ◌*◌, ◌≤◌, ◌<◌, mul_assoc, arith, ℤ, pos}
 use Rattle.lists.specs.Lists.{Apart, tab}
 use Rattle.lists.proofs.Tab.{get_or-tab}
 use Rattle.lifting.specs.Lift.{at}

@@ -1,11 +1,5 @@
 -- A packet of zeros, and green's details laid into one: document 01's recovery of group 4. Assumes nothing.
-use mathlib.Core.Path.{◌≡◌, refl, sym, ap, ◌∙◌}
-use mathlib.Core.Bool.{Bool, false}
-use mathlib.Core.List.{List}
-use Prim.Native.Nat.{ℕ, ◌+◌, ◌*◌, ◌/◌}
-use native.Mathlib.Omega.{arith}
-use lib.IntN.{ℤ, pos}
-use lib.ListN.{length}
+use Rattle.std.proofs.Common.{◌≡◌, refl, sym, ap, ◌∙◌, Bool, false, List, ℕ, ◌+◌, ◌*◌, ◌/◌, arith, ℤ, pos, length}
 use Rattle.lists.specs.Lists.{tab, part, laid}
 use Rattle.lists.proofs.Laid.{laid_same}
 use Rattle.format.specs.Lifting.{Plane}

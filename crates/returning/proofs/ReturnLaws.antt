@@ -1,10 +1,5 @@
 -- The three bands of a level, one after the other, are what recovery gives back. Assumes nothing.
-use mathlib.Core.Path.{◌≡◌, sym, subst, ◌∙◌}
-use mathlib.Core.List.{List}
-use Prim.Native.Nat.{ℕ, ◌+◌, ◌*◌, ◌^◌, ◌<◌}
-use native.Mathlib.Omega.{arith}
-use lib.IntN.{ℤ}
-use lib.ListN.{length}
+use Rattle.std.proofs.Common.{◌≡◌, sym, subst, ◌∙◌, List, ℕ, ◌+◌, ◌*◌, ◌^◌, ◌<◌, arith, ℤ, length}
 use Rattle.lists.specs.Lists.{Apart, part}
 use Rattle.format.specs.Lifting.{Plane}
 use Rattle.format.specs.Sizes.{Level, detail, columns}

@@ -9,13 +9,12 @@ ghost use Rattle.format.specs.Refusals.{each};
 ghost use Rattle.refusals.specs.Number.{code_of};
 ghost use Rattle.format.specs.Table.{height, E, hh, source, is_edge};
 ghost use Rattle.format.specs.Writing.{too_large, too_far};
-ghost use Rattle.passes.specs.Plan.{Sized};
 ghost use Rattle.levels.specs.Bands.{level_of};
 ghost use Rattle.levels.specs.Steps.{steps};
 ghost use Rattle.returning.specs.Return.{value_back, steps_of, steps_refusal, edge_row_at, some_source, row_back, row_refusal, Movable, Returnable, band_laid, band_refused, steps_laid, steps_refused, no_edges, hl_laid, level_refused, AllReturnable, Held, Beside, BandsReturned, BaseBeside, BaseReturned};
 
-use levels::Stage;
-use passes::{Band, Level, Plan};
+use levels::{Block, Stage};
+use passes::{Band, Level};
 use refusals::Refusal;
 use wrap32::{edge_detail, sign16, wrapping_sub};
 
@@ -109,11 +108,11 @@ pub struct Edges {
 
 impl Edges {
     // Those of a level's hh, which has m rows.
-    fn of_level(s: Stage, z: Plan, m: usize, odd: bool) -> Edges
-        requires { Sized z.guarded z.w z.n × (m ≡ steps z.guarded z.n (level_of s)) }
-        ensures { ((y : ℕ) → y < m → edge_row_at result y ≡ is_edge (source z.guarded (level_of s) (height z.guarded z.n (level_of s)) hh y)) × (result.odd ≡ odd) }
+    fn of_level(s: Stage, b: Block, m: usize, odd: bool) -> Edges
+        requires { m ≡ steps b.z.guarded b.z.n (level_of s) }
+        ensures { ((y : ℕ) → y < m → edge_row_at result y ≡ is_edge (source b.z.guarded (level_of s) (height b.z.guarded b.z.n (level_of s)) hh y)) × (result.odd ≡ odd) }
     {
-        let plain = usize::from(!z.guarded);
+        let plain = usize::from(!b.z.guarded);
         let (first, last) = match s {
             Stage::First => (0, m),
             Stage::Second => (1, m - plain),
@@ -217,21 +216,14 @@ fn level_back(work: &mut [i32], g: Level, m: usize, u: Undone, e: Edges) -> Resu
     a.and(b).and(d)
 }
 
-// The bands of a level to its packet, in the block that stands from `at` on.
-pub fn bands_back(
-    work: &mut [i32],
-    s: Stage,
-    z: Plan,
-    at: usize,
-    u: Undone,
-    odd: bool,
-) -> Result<(), Refusal>
-    requires { Held z at (length work.old) × Beside z at (level_of s) u (length work.old) }
-    ensures { BandsReturned z at (level_of s) odd u work.old work.new (code_of result) }
+// The bands of a level to its packet, in block b.
+pub fn bands_back(work: &mut [i32], s: Stage, b: Block, u: Undone, odd: bool) -> Result<(), Refusal>
+    requires { Held b.z b.at (length work.old) × Beside b.z b.at (level_of s) u (length work.old) }
+    ensures { BandsReturned b.z b.at (level_of s) odd u work.old work.new (code_of result) }
 {
-    let g = s.level(z, at);
-    let m = s.steps(z);
-    let e = Edges::of_level(s, z, m, odd);
+    let g = s.level(b);
+    let m = s.steps(b.z);
+    let e = Edges::of_level(s, b, m, odd);
     level_back(work, g, m, u, e)
 }
 
@@ -250,11 +242,12 @@ fn steps_back(work: &mut [i32], r: Rows, to: usize) -> Result<(), Refusal>
     checked
 }
 
-// Level 1's ll, whose rows stand one every t numbers from `from` on, to group 0's packet in the block that stands from `at` on: as steps.
-pub fn base_back(work: &mut [i32], z: Plan, at: usize, from: usize, t: usize) -> Result<(), Refusal>
-    requires { Held z at (length work.old) × BaseBeside z at from t (length work.old) }
-    ensures { BaseReturned z at from t work.old work.new (code_of result) }
+// Level 1's ll, whose rows stand one every t numbers from `from` on, to group 0's packet in block b: as steps.
+pub fn base_back(work: &mut [i32], b: Block, from: usize, t: usize) -> Result<(), Refusal>
+    requires { Held b.z b.at (length work.old) × BaseBeside b.z b.at from t (length work.old) }
+    ensures { BaseReturned b.z b.at from t work.old work.new (code_of result) }
 {
+    let Block { z, at } = b;
     let c = z.w / 16;
     let s = usize::from(z.guarded);
     let r = Rows {

@@ -2,14 +2,13 @@
 #![tactic(auto)]
 
 ghost use Rattle.std.specs.Prelude.{◌≡◌, ◌++◌, ◌+◌, ◌*◌, ◌≤◌, length};
-ghost use Rattle.lists.specs.Lists.{part, put_at, Clear};
+ghost use Rattle.lists.specs.Lists.{part, put_at};
 ghost use Rattle.lifting.specs.Lift.{low_row, step_row};
 ghost use Rattle.ring.specs.Ring.{LowsIn, HighsIn, low_pair, step_pair, high_pair, end_pair, along_row};
 
-use lifting::{Beside, Between, Step, lift_low, lift_row, step_row};
+use lifting::{Beside, Between, Low, Step, lift_row, step_row};
 
-// Where a row of the low bands ll and hl stands in the work slice, and one of the high bands lh and hh. The slices themselves, work and ring, are lent
-// to each function as they are: a struct of the two would be made anew for each call.
+// Where a row of the low bands ll and hl stands in the work slice, and one of the high bands lh and hh.
 #[derive(Clone, Copy)]
 pub struct Rows {
     pub ll: usize,
@@ -18,7 +17,8 @@ pub struct Rows {
     pub hh: usize,
 }
 
-// A row of low results at `to`, from the low row and the high rows on both sides of it.
+// A row of low results at `to`, from the low row and the high rows on both sides of it. Each function has work, ring and c as they are lent:
+// a struct of them would hold both loans, and the pass writes to work between two calls.
 fn low_half(
     work: &[i32],
     ring: &mut [i32],
@@ -31,7 +31,7 @@ fn low_half(
     requires { (to + c ≤ length ring.old) × (low + c ≤ length work.now) × (prev + c ≤ length work.now) × (cur + c ≤ length work.now) }
     ensures { ring.new ≡ put_at ring.old to (low_row c (part work.now low c) (part work.now prev c) (part work.now cur c)) }
 {
-    lift_low(
+    step_row::<Low>(
         &mut ring[to..to + c],
         &work[low..low + c],
         &work[prev..prev + c],
@@ -39,7 +39,7 @@ fn low_half(
     );
 }
 
-// A row of high results at `to`, from a high row of work and the ring's rows at a and b.
+// A row of high results at `to`, from a high row of work and the ring's rows at a and b, before it.
 fn step_half<S: Step>(
     work: &[i32],
     ring: &mut [i32],
@@ -49,11 +49,16 @@ fn step_half<S: Step>(
     b: usize,
     to: usize,
 )
-    requires in_bounds { (to + c ≤ length ring.old) × (a + c ≤ length ring.old) × (b + c ≤ length ring.old) × (high + c ≤ length work.now) }
-    requires clear { Clear to c a × Clear to c b }
+    requires { (to + c ≤ length ring.old) × (a + c ≤ to) × (b + c ≤ to) × (high + c ≤ length work.now) }
     ensures { ring.new ≡ put_at ring.old to (step_row S.step c (part work.now high c) (part ring.old a c) (part ring.old b c)) }
 {
-    step_row::<S>(ring, &work[high..high + c], to, a, b);
+    let (before, after) = ring.split_at_mut(to);
+    step_row::<S>(
+        &mut after[..c],
+        &work[high..high + c],
+        &before[a..a + c],
+        &before[b..b + c],
+    );
 }
 
 // Low results of lo and of hi at `to`, from the low bands' row in cur and the high bands' rows in prev and cur.

@@ -1,14 +1,7 @@
 -- A slice that is filled from the front. Assumes nothing.
-use mathlib.Core.Path.{◌≡◌, sym, ap, ◌∙◌}
-use mathlib.Core.Logic.{⊎_elim}
-use mathlib.Core.List.{List, ◌∷◌, ◌++◌, append_assoc}
-use Prim.Native.Nat.{ℕ, zero, suc, ◌+◌, ◌≤◌, ◌<◌}
-use native.Mathlib.Omega.{arith}
-use native.Mathlib.Numerals.{add-one}
-use native.Mathlib.Nat.{add-zero}
-use lib.IntN.{ℤ, pos}
-use lib.ListN.{length, set, get_or, replicate, length-set, length-replicate, get_or-replicate, get_or-eq_default}
-use lib.Seq.{take_all, take-length, take-append-le, take-suc-set, set_out, set-get_or, get_or-set_other}
+use Rattle.std.proofs.Common.{◌≡◌, sym, ap, ◌∙◌, ⊎_elim, List, ◌∷◌, ◌++◌, append_assoc, ℕ, zero, suc, ◌+◌, ◌≤◌, ◌<◌, arith, add-one, add-zero, ℤ, pos, length, set, get_or, replicate, length-set, take_all, take-suc-set, get_or-set_other}
+use lib.ListN.{length-replicate, get_or-replicate, get_or-eq_default}
+use lib.Seq.{take-length, take-append-le, set_out, set-get_or}
 use Rattle.format.proofs.BitLaws.{le-or-lt}
 use Rattle.format.specs.Coefficients.{zeros}
 use Rattle.rows.specs.Course.{filled, Clean}

@@ -1,16 +1,8 @@
 -- Laws of a width that may be reckoned below 0. Assumes nothing.
-use borrow.Author.Tests.{ltb-true, ltb-false, lt-leb}
-use mathlib.Core.Path.{◌≡◌, refl, sym, ap, ◌∙◌}
-use mathlib.Core.Bool.{true, false, true≢false}
-use Prim.Native.Nat.{ℕ, zero, suc, ◌^◌, ◌<◌, ◌≤◌}
-use native.Mathlib.Omega.{arith}
-use lib.Dec.{T}
-use lib.IntN.{ℤ, pos, negsuc, nat_abs}
-use lib.Signed.{lt_z, le_z, non_neg}
-use mir.Syntax.{w64}
-use mir.Val.{SFits, to_z, of_z}
+use Rattle.std.proofs.Common.{leb-true, leb-false, ◌≡◌, refl, sym, ap, ◌∙◌, true, false, true≢false, ℕ, zero, suc, ◌^◌, ◌<◌, ◌≤◌, arith, T, ℤ, pos, negsuc, nat_abs, w64, SFits, to_z, of_z, to_z-of_z}
+use borrow.Author.Tests.{lt-leb}
+use lib.Signed.{le_z, non_neg}
 use mir.ValLaws.{to_z_pos}
-use mir.Facts.{to_z-of_z}
 use Rattle.rows.specs.Word.{level_of}
 
 -- what is not below 0 is its own level
@@ -39,12 +31,12 @@ level-some (pos (suc n)) e = (simp e, omega arith, tt)
 level-some (negsuc n) e = absurd (true≢false e)
 
 -- a level is at most n where the number is
-pub level-le : (y : ℤ) (n : ℕ) → lt_z (pos n) y ≡ false → level_of y ≤ n
+pub level-le : (y : ℤ) (n : ℕ) → le_z y (pos n) ≡ true → level_of y ≤ n
 unfolding level_of
-level-le (pos m) n e = omega (arith, level-pos m, ltb-false n m e)
+level-le (pos m) n e = omega (arith, level-pos m, leb-true m n e)
 level-le (negsuc m) n e = omega arith
 
 -- and more where the number is
-pub level-gt : (y : ℤ) (n : ℕ) → lt_z (pos n) y ≡ true → n < level_of y
-level-gt (pos m) n e = omega (arith, level-pos m, ltb-true n m e)
-level-gt (negsuc m) n e = absurd (true≢false (sym e))
+pub level-gt : (y : ℤ) (n : ℕ) → le_z y (pos n) ≡ false → n < level_of y
+level-gt (pos m) n e = omega (arith, level-pos m, leb-false m n e)
+level-gt (negsuc m) n e = absurd (true≢false e)

@@ -1,12 +1,6 @@
 -- Laws of the numbers of a row. Assumes nothing.
-use borrow.Author.Tests.{eq-eqb, ne_eqb}
-use mathlib.Core.Path.{◌≡◌}
+use Rattle.std.proofs.Common.{eq-eqb, ne_eqb, ◌≡◌, ℕ, ◌+◌, ◌-◌, ◌*◌, ◌^◌, ◌%◌, ◌<◌, ◌≤◌, arith, mul-le-mul_left, mul-one, pos, shl_exact, pow_pos}
 use mathlib.Core.Bool.{or-true}
-use Prim.Native.Nat.{ℕ, ◌+◌, ◌-◌, ◌*◌, ◌^◌, ◌%◌, ◌<◌, ◌≤◌}
-use native.Mathlib.Omega.{arith}
-use native.Mathlib.Nat.{mul-le-mul_left, mul-one}
-use lib.IntN.{pos}
-use lib.Pow.{shl_exact, pow_pos}
 use Rattle.wrap32.specs.Cut.{wrap}
 use Rattle.format.specs.Coefficients.{value_of}
 

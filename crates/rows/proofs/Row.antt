@@ -1,12 +1,6 @@
 -- The turns of a row. Assumes nothing.
-use borrow.Author.Tests.{eq-eqb, ne_eqb, le-leb, lt-leb}
-use mathlib.Core.Path.{◌≡◌, sym, ap, ◌∙◌}
-use mathlib.Core.List.{List, [], ◌∷◌, ◌++◌, append-nil}
-use mathlib.Core.Logic.{⊎_elim}
-use Prim.Native.Nat.{ℕ, zero, suc, ◌+◌, ◌-◌, ◌*◌, ◌/◌, ◌≤◌, ◌<◌}
-use native.Mathlib.Omega.{arith}
-use lib.IntN.{ℤ, pos}
-use lib.ListN.{length, set, replicate, take}
+use Rattle.std.proofs.Common.{eq-eqb, ne_eqb, le-leb, ◌≡◌, sym, ap, ◌∙◌, List, [], ◌∷◌, ◌++◌, append-nil, ⊎_elim, ℕ, zero, suc, ◌+◌, ◌-◌, ◌*◌, ◌/◌, ◌≤◌, ◌<◌, arith, ℤ, pos, length, set, replicate, take}
+use borrow.Author.Tests.{lt-leb}
 use Rattle.format.specs.Reader.{Taken, Reader, update_of}
 use Rattle.format.specs.Coefficients.{GroupAnswer, RunAnswer, Part, zeros_part, group_part, stop_part, stopped, zeros_of, group_of, row_step, row_from, row_of}
 use Rattle.bits.specs.View.{as_reader, Ready}

@@ -1,14 +1,7 @@
 -- A zero run out of one word. Assumes nothing.
-use borrow.Author.Tests.{eq-eqb, ne_eqb}
-use mathlib.Core.Path.{◌≡◌, sym, ap, ◌∙◌}
-use mathlib.Core.Logic.{⊎_elim}
-use mathlib.Core.List.{List}
-use Prim.Native.Nat.{ℕ, ◌+◌, ◌-◌, ◌*◌, ◌/◌, ◌%◌, ◌^◌, ◌≤◌, ◌<◌, min}
-use native.Mathlib.Nat.{add-zero, sub-zero}
-use native.Mathlib.Omega.{arith}
+use Rattle.std.proofs.Common.{eq-eqb, ne_eqb, ◌≡◌, sym, ap, ◌∙◌, ⊎_elim, List, ℕ, ◌+◌, ◌-◌, ◌*◌, ◌/◌, ◌%◌, ◌^◌, ◌≤◌, ◌<◌, min, add-zero, arith, lit≤, pow_pos}
+use native.Mathlib.Nat.{sub-zero}
 use lib.Count.{count_leading_zeros, leading_length}
-use lib.Dec.{lit≤}
-use lib.Pow.{pow_pos}
 use Rattle.format.specs.Bits.{bits_at, bit_at}
 use Rattle.format.specs.Reader.{Reader, Taken, skipped, find_of, run_of, unary_of, at_most, bit_length}
 use Rattle.format.specs.Coefficients.{width_after, zeros_of}

@@ -1,13 +1,7 @@
 -- Signs from one word of four bits. Assumes nothing.
-use borrow.Author.Tests.{le-leb}
-use mathlib.Core.Path.{◌≡◌, refl, ap, ◌∙◌}
-use mathlib.Core.Bool.{Bool, true, false, cond}
-use mathlib.Core.List.{List}
-use Prim.Native.Nat.{ℕ, ◌+◌, ◌-◌, ◌/◌, ◌%◌, ◌^◌, ◌≤◌, ◌<◌}
-use native.Mathlib.Nat.{add-zero, sub-zero}
-use native.Mathlib.Omega.{arith}
+use Rattle.std.proofs.Common.{le-leb, ◌≡◌, refl, ap, ◌∙◌, Bool, true, false, cond, List, ℕ, ◌+◌, ◌-◌, ◌/◌, ◌%◌, ◌^◌, ◌≤◌, ◌<◌, add-zero, arith, ℤ, pos}
+use native.Mathlib.Nat.{sub-zero}
 use lib.Pow.{low}
-use lib.IntN.{ℤ, pos}
 use lib.Signed.{lt_z}
 use Rattle.format.specs.Bits.{bits_at}
 use Rattle.format.specs.Reader.{Reader, read_of, skipped}

@@ -1,15 +1,6 @@
 -- The turns of a row, as it is read and out of single words. Assumes nothing.
-use mathlib.Core.Path.{◌≡◌, refl, sym, ap, subst, ◌∙◌}
-use mathlib.Core.Bool.{true, false}
-use mathlib.Core.List.{List, [], ◌∷◌}
-use Prim.Native.Nat.{ℕ, ◌+◌, ◌-◌, ◌*◌, ◌/◌, ◌%◌, ◌^◌, ◌≤◌, ◌<◌, min}
-use native.Mathlib.Omega.{arith}
-use lib.Dec.{T}
-use lib.IntN.{ℤ, pos, nat_abs}
-use lib.ListN.{length, set, length-set}
+use Rattle.std.proofs.Common.{◌≡◌, refl, sym, ap, subst, ◌∙◌, true, false, List, [], ◌∷◌, ℕ, ◌+◌, ◌-◌, ◌*◌, ◌/◌, ◌%◌, ◌^◌, ◌≤◌, ◌<◌, min, arith, T, ℤ, pos, nat_abs, length, set, length-set, w64, Fits, to_z}
 use lib.Signed.{le_z, non_neg}
-use mir.Syntax.{w64}
-use mir.Val.{Fits, to_z}
 use Rattle.format.specs.Bits.{bits_at}
 use Rattle.format.specs.Reader.{Reader, Taken, skipped}
 use Rattle.format.specs.Coefficients.{RunAnswer, group_of, width_next, zeros_of}

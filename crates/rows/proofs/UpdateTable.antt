@@ -1,17 +1,8 @@
 -- Laws of the width updates that tables give by their first five bits. Assumes nothing.
-use borrow.Author.Tests.{eq-eqb, ne_eqb, lt-ltb, le-ltb, le-leb, lt-leb}
-use mathlib.Core.Path.{◌≡◌, refl, sym, ap, ◌∙◌}
-use mathlib.Core.Bool.{Bool, true, false, cond}
-use mathlib.Core.Logic.{⊎_elim}
-use Prim.Native.Nat.{ℕ, zero, suc, ◌+◌, ◌-◌, ◌*◌, ◌/◌, ◌%◌, ◌^◌, ◌<◌, ◌≤◌, min}
-use native.Mathlib.Omega.{arith}
+use Rattle.std.proofs.Common.{eq-eqb, ne_eqb, lt-ltb, le-ltb, le-leb, ◌≡◌, refl, sym, ap, ◌∙◌, Bool, true, false, cond, ⊎_elim, ℕ, zero, suc, ◌+◌, ◌-◌, ◌*◌, ◌/◌, ◌%◌, ◌^◌, ◌<◌, ◌≤◌, min, arith, ltb, eqb, ℤ, pos, neg_ℤ, ◌+ℤ◌, ◌-ℤ◌, pow-add, pow_mono, w8, w64, SFits}
+use borrow.Author.Tests.{lt-leb}
 use lib.Count.{count_leading_zeros, leading_le, leading_of_zero, leading_top, leading_length, leading_unique}
-use lib.Dec.{ltb, eqb}
-use lib.IntN.{ℤ, pos, neg_ℤ, ◌+ℤ◌, ◌-ℤ◌}
-use lib.Pow.{pow-add, pow_mono}
 use lib.Signed.{le_z, mag}
-use mir.Syntax.{w8, w64}
-use mir.Val.{SFits}
 use Rattle.wrap32.proofs.Laws.{of-cond, less-some, less_none, mag-add}
 use Rattle.format.proofs.BitLaws.{le-or-lt}
 use Rattle.bits.specs.declared.Used.{Used}

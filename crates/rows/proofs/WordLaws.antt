@@ -1,17 +1,7 @@
 -- A group of four values out of one word. Assumes nothing.
-use borrow.Author.Tests.{eq-eqb, ne_eqb, le-leb, lt-leb, lt-ltb, le-ltb}
-use mathlib.Core.Path.{◌≡◌, refl, sym, ap, ◌∙◌}
-use mathlib.Core.Logic.{⊎_elim}
-use mathlib.Core.List.{List, [], ◌∷◌}
-use mathlib.Core.Bool.{cond}
-use Prim.Native.Nat.{ℕ, ◌+◌, ◌-◌, ◌*◌, ◌/◌, ◌%◌, ◌^◌, ◌≤◌, ◌<◌}
-use native.Mathlib.Nat.{zero-add, add-zero, sub-zero, lt_of_lt_of_le}
-use native.Mathlib.Omega.{arith}
-use lib.Dec.{eqb, lit≤}
-use lib.Pow.{shr_lt, shl_lt, pow_mono}
-use lib.IntN.{ℤ, pos, neg_ℤ}
-use mir.Syntax.{w32}
-use mir.Val.{SFits}
+use Rattle.std.proofs.Common.{eq-eqb, ne_eqb, le-leb, lt-ltb, le-ltb, ◌≡◌, refl, sym, ap, ◌∙◌, ⊎_elim, List, [], ◌∷◌, cond, ℕ, ◌+◌, ◌-◌, ◌*◌, ◌/◌, ◌%◌, ◌^◌, ◌≤◌, ◌<◌, zero-add, add-zero, lt_of_lt_of_le, arith, eqb, lit≤, shr_lt, shl_lt, pow_mono, ℤ, pos, neg_ℤ, w32, SFits}
+use borrow.Author.Tests.{lt-leb}
+use native.Mathlib.Nat.{sub-zero}
 use Rattle.wrap32.proofs.Laws.{cut-id, neg-fits}
 use Rattle.format.specs.Bits.{bits_at}
 use Rattle.format.specs.Reader.{Reader, skipped}

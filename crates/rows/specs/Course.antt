@@ -1,5 +1,5 @@
 -- The course of a row: that what is decoded so far, and what the rest gives, make the whole row.
-use Rattle.std.specs.Prelude.{◌≡◌, List, ◌++◌, ◌⊎◌, ℕ, ◌+◌, ◌-◌, ◌/◌, ◌≤◌, ◌<◌, ℤ, pos, length, take, get_or}
+use Rattle.std.specs.Prelude.{◌≡◌, List, ◌++◌, ◌⊎◌, ℕ, ◌+◌, ◌-◌, ◌/◌, ◌^◌, ◌≤◌, ◌<◌, ℤ, pos, length, take, get_or}
 use Rattle.format.specs.Reader.{Reader, Taken}
 use Rattle.format.specs.Coefficients.{Part, row_from}
 use Rattle.bits.specs.declared.BitReader.{BitReader}
@@ -20,6 +20,14 @@ filled d i l = take (length d) (take i d ++ l)
 -- all of d is 0 from i on
 abbrev pub Clean : List ℤ → ℕ → Type 0
 Clean d i = (j : ℕ) → i ≤ j → get_or d j (pos 0) ≡ pos 0
+
+-- a row under way: nothing has stopped it, and elements are left, all of them 0
+pub record Underway (d : List ℤ) (out w : ℕ) (r : BitReader) : Type 0 where
+  pub go : (as_reader r).status ≡ 0
+  pub size : length d < 2 ^ 32
+  pub more : out < length d
+  pub short : w ≤ 19
+  pub clean : Clean d out
 
 -- the list d holds the row as far as out, and what g groups more give makes it the whole row
 pub record Going (s : List ℕ) (sel : ℕ) (whole : Part) (d₀ d : List ℤ) (out g : ℕ) (t : Taken) : Type 0 where

@@ -10,24 +10,34 @@ ghost use Rattle.bits.specs.View.{as_reader, as_taken, as_four, Ready};
 ghost use Rattle.rows.specs.View.{as_signed, as_signed_four, as_group, as_run};
 ghost use Rattle.rows.specs.Word.{sign_bit_of, nonzero_of, signed_of, quad_of, store_quad, level_of, Near, Ends, Runs, step_of};
 ghost use Rattle.rows.specs.Stretch.{stretch_of, stretch_quad};
-ghost use Rattle.rows.specs.Course.{state_of, moved_to, Halted, Clean, Onward, Done};
+ghost use Rattle.rows.specs.Course.{state_of, moved_to, Halted, Underway, Onward, Done};
 
+// The packet stands beside each reader, and `Ready` in each contract, for the reason that `BitReader` gives. The width goes beside the reader, since a
+// turn changes each alone.
 use bits::{BitReader, Four, Status, Taken, Used, bit_length, changed};
 use words::{after, window};
 use wrap32::cut32;
 
-// The value u under a selector.
-fn value(u: u64, selector: u64) -> i32
-    requires { (u < 2 ^ 19) × (selector < 16) }
-    ensures { result ≡ value_of u selector }
+// A selector, of four bits.
+#[derive(Clone, Copy)]
+pub struct Selector {
+    pub number: u64,
+    pub ghost small: { number < 16 },
+}
+
+// The value u under a selector. It asks whether the selector is 0, where document 01 has another formula: by a type, as `Scale` is, each function from
+// `decode_row` to `sign` would carry that parameter for this one line.
+fn value(u: u64, selector: Selector) -> i32
+    requires { u < 2 ^ 19 }
+    ensures { result ≡ value_of u selector.number }
 {
-    if selector == 0 {
+    if selector.number == 0 {
         return u as i32;
     }
     if u == 0 {
         return 0;
     }
-    cut32((((2 * u + 1) << (selector - 1)) - u % 2) as i64)
+    cut32((((2 * u + 1) << (selector.number - 1)) - u % 2) as i64)
 }
 
 // A value above 0 under a sign bit. It stands by itself so that it is compiled without a branch.
@@ -66,14 +76,13 @@ struct Decoded<T> {
 // The signs of four values, one by one.
 fn signs_apart(
     q: Taken<Four<u64>>,
-    selector: u64,
+    selector: Selector,
     reader: BitReader,
     packet: &[u8],
 ) -> Taken<Four<i32>>
     requires ready { Ready packet.now reader }
-    requires selector_bound { selector < 16 }
     requires short { (q.value.a < 2 ^ 19) × (q.value.b < 2 ^ 19) × (q.value.c < 2 ^ 19) × (q.value.d < 2 ^ 19) }
-    ensures value { as_signed_four result ≡ signs_of packet.now selector (as_four q) (as_reader reader) }
+    ensures value { as_signed_four result ≡ signs_of packet.now selector.number (as_four q) (as_reader reader) }
     ensures still_ready { Ready packet.now result.reader }
 {
     let a = sign(value(q.value.a, selector), reader, packet);
@@ -111,11 +120,15 @@ fn sign_bit(v: i32, word: u64, used: u64) -> Used<i32>
 }
 
 // The signs of four values. One word holds them all, but near the end of the allowance.
-fn signs(q: Taken<Four<u64>>, selector: u64, reader: BitReader, packet: &[u8]) -> Taken<Four<i32>>
+fn signs(
+    q: Taken<Four<u64>>,
+    selector: Selector,
+    reader: BitReader,
+    packet: &[u8],
+) -> Taken<Four<i32>>
     requires ready { Ready packet.now reader }
-    requires selector_bound { selector < 16 }
     requires short { (q.value.a < 2 ^ 19) × (q.value.b < 2 ^ 19) × (q.value.c < 2 ^ 19) × (q.value.d < 2 ^ 19) }
-    ensures value { as_signed_four result ≡ signs_of packet.now selector (as_four q) (as_reader reader) }
+    ensures value { as_signed_four result ≡ signs_of packet.now selector.number (as_four q) (as_reader reader) }
     ensures still_ready { Ready packet.now result.reader }
 {
     if reader.remaining < 4 {
@@ -170,12 +183,12 @@ fn group(
     reader: BitReader,
     packet: &[u8],
     width: u64,
-    selector: u64,
+    selector: Selector,
     groups: u64,
 ) -> Decoded<Four<i32>>
     requires ready { Ready packet.now reader }
-    requires width_bound { (width ≤ 19) × (selector < 16) }
-    ensures value { as_group result ≡ group_of packet.now selector groups (state_of width reader) }
+    requires width_bound { width ≤ 19 }
+    ensures value { as_group result ≡ group_of packet.now selector.number groups (state_of width reader) }
     ensures still_ready { Ready packet.now result.reader }
 {
     let q = reader.read4(packet, width);
@@ -233,7 +246,8 @@ fn put(dst: &mut [i32], i: usize, v: i32)
     }
 }
 
-// Four values at a place of a slice, as far as it goes.
+// Four values at a place of a slice, as far as it goes. In `fast` stands `put_quad`, which tests no place: with this in its stead coefficients
+// measured some 20 per cent slower.
 fn put4(dst: &mut [i32], i: usize, q: Four<i32>)
     requires { i < 2 ^ 63 }
     ensures { dst.new ≡ store_quad dst.old i q }
@@ -244,7 +258,7 @@ fn put4(dst: &mut [i32], i: usize, q: Four<i32>)
     put(dst, i + 3, q.d);
 }
 
-// One of two numbers, without a branch.
+// One of two numbers. It stands by itself so that it is compiled without a branch.
 fn pick(t: bool, a: u64, b: u64) -> u64
     ensures { result ≡ cond t a b }
 {
@@ -265,7 +279,7 @@ fn nonzero(u: u64) -> u64
     u64::from(u != 0)
 }
 
-// A short magnitude under a sign bit. It stands by itself so that it is compiled without a branch.
+// A short magnitude under a sign bit. It stands by itself so that it is compiled without a branch; `with_sign` takes no 0.
 fn with_bit(m: u64, bit: u64) -> i32
     requires { m < 2 ^ 12 }
     ensures { result ≡ signed_of m bit }
@@ -320,7 +334,7 @@ fn odd(x: i32) -> i32
     i32::from(x % 2 != 0)
 }
 
-// A number where a test holds, else 0.
+// A number where a test holds, else 0. It stands by itself so that it is compiled without a branch, and beside `pick`, as each has one type and one use.
 fn kept(t: bool, h: i32) -> i32
     ensures { result ≡ cond t h (pos 0) }
 {
@@ -328,14 +342,14 @@ fn kept(t: bool, h: i32) -> i32
 }
 
 // A coefficient of selector 0 under the selector.
-fn stretched(x: i32, selector: u64) -> i32
-    requires { (0 < selector) × (selector < 16) }
-    ensures { result ≡ stretch_of selector x }
+fn stretched(x: i32, selector: Selector) -> i32
+    requires { 0 < selector.number }
+    ensures { result ≡ stretch_of selector.number x }
 {
-    let h = (1i32 << (selector - 1)) - odd(x);
+    let h = (1i32 << (selector.number - 1)) - odd(x);
     let p = kept(0 < x, h);
     let q = kept(x < 0, h);
-    cut32(((x << selector) as i64) + (p as i64) - (q as i64))
+    cut32(((x << selector.number) as i64) + (p as i64) - (q as i64))
 }
 
 // What is done to four values of selector 0.
@@ -365,13 +379,12 @@ impl Scale for Unscaled {
 // A selector above 0.
 #[derive(Clone, Copy)]
 struct Scaled {
-    selector: u64,
-    ghost some: { 0 < selector },
-    ghost small: { selector < 16 },
+    selector: Selector,
+    ghost some: { 0 < selector.number },
 }
 
 impl Scale for Scaled {
-    ghost selector = { λ x. x.selector };
+    ghost selector = { λ x. x.selector.number };
 
     fn four(self, q: Four<i32>) -> Four<i32> {
         Four {
@@ -382,7 +395,7 @@ impl Scale for Scaled {
         }
     }
 
-    ghost below = { λ x. x.small };
+    ghost below = { λ x. x.selector.small };
 }
 
 // The place before which two words stand whole in the packet.
@@ -396,13 +409,7 @@ fn edge(packet: &[u8]) -> u64
 fn near(level: i64, out: usize, last: usize, place: u64, end: u64) -> bool
     ensures { (result ≡ true → Near (level_of level) out last place end) × (result ≡ false → Near (level_of level) out last place end → ⊥) }
 {
-    if 12 < level {
-        return false;
-    }
-    if last <= out {
-        return false;
-    }
-    place < end
+    out < last && place < end && level <= 12
 }
 
 // Whether so many bits are more than a word gives, or more than are left up to a place.
@@ -410,13 +417,10 @@ fn over(place: u64, used: u64, most: u64, stop: u64) -> bool
     requires { (place < 2 ^ 40) × (used < 2 ^ 40) }
     ensures { (result ≡ false → (used ≤ most) × (place + used ≤ stop)) × (result ≡ true → (used ≤ most) × (place + used ≤ stop) → ⊥) }
 {
-    if most < used {
-        return true;
-    }
-    stop < place + used
+    most < used || stop < place + used
 }
 
-// A zero run and the width after it, and the bits that they take.
+// A zero run and the width after it, and the bits that they take: `Used` over a pair would leave the first two without names.
 #[derive(Clone, Copy)]
 struct Run {
     groups: u64,
@@ -521,16 +525,7 @@ fn ends(width: u64, out: usize, n: usize, place: u64, stop: u64) -> bool
     requires { (out < 2 ^ 33) × (place < 2 ^ 40) }
     ensures { (result ≡ true → Ends width out n place stop) × (result ≡ false → Ends width out n place stop → ⊥) }
 {
-    if width == 0 {
-        return false;
-    }
-    if 12 < width {
-        return false;
-    }
-    if n != out + 4 {
-        return false;
-    }
-    place + 4 * width + 4 <= stop
+    1 <= width && width <= 12 && n == out + 4 && place + 4 * width + 4 <= stop
 }
 
 // A point of a row, with the reader that has come to it.
@@ -551,7 +546,8 @@ fn arrived(reader: BitReader, place: u64, word: u64, width: u64, out: usize) -> 
 }
 
 // Runs and groups out of single words, as long as each stands whole in its word. The rest of the row is 0 already. Each turn hands the next
-// one its word.
+// one its word. It is a `while`: what is read decides how far a turn goes. That the row is under way is a clause here and below, of the slice that is
+// lent and the reader together.
 fn fast<S: Scale>(
     reader: BitReader,
     packet: &[u8],
@@ -561,8 +557,7 @@ fn fast<S: Scale>(
     out: usize,
 ) -> Decoded<usize>
     requires ready { Ready packet.now reader }
-    requires going { ((as_reader reader).status ≡ 0) × (length dst.old < 2 ^ 32) × (out < length dst.old) × (width ≤ 19) }
-    requires clean { Clean dst.old out }
+    requires underway { Underway dst.old out width reader }
     ensures onward { Onward packet.now (S.selector scale) dst.old out (state_of width reader) dst.new result.value (state_of result.width result.reader) }
     ensures done { Done packet.now (length dst.old) out width result.value result.width result.reader }
 {
@@ -610,22 +605,21 @@ fn fast<S: Scale>(
     arrived(reader, place, word, w, i)
 }
 
-// Runs and groups out of single words, under any selector.
+// Runs and groups out of single words, under any selector: here the scale becomes a type, once for each stretch.
 fn quick(
     reader: BitReader,
     packet: &[u8],
     width: u64,
-    selector: u64,
+    selector: Selector,
     dst: &mut [i32],
     out: usize,
 ) -> Decoded<usize>
     requires ready { Ready packet.now reader }
-    requires going { ((as_reader reader).status ≡ 0) × (length dst.old < 2 ^ 32) × (out < length dst.old) × (width ≤ 19) × (selector < 16) }
-    requires clean { Clean dst.old out }
-    ensures onward { Onward packet.now selector dst.old out (state_of width reader) dst.new result.value (state_of result.width result.reader) }
+    requires underway { Underway dst.old out width reader }
+    ensures onward { Onward packet.now selector.number dst.old out (state_of width reader) dst.new result.value (state_of result.width result.reader) }
     ensures done { Done packet.now (length dst.old) out width result.value result.width result.reader }
 {
-    if selector == 0 {
+    if selector.number == 0 {
         return fast(reader, packet, width, Unscaled, dst, out);
     }
     fast(reader, packet, width, Scaled { selector }, dst, out)
@@ -636,14 +630,13 @@ fn plain(
     reader: BitReader,
     packet: &[u8],
     width: u64,
-    selector: u64,
+    selector: Selector,
     dst: &mut [i32],
     out: usize,
 ) -> Decoded<usize>
     requires ready { Ready packet.now reader }
-    requires going { ((as_reader reader).status ≡ 0) × (length dst.old < 2 ^ 32) × (out < length dst.old) × (selector < 16) × (width ≤ 19) }
-    requires clean { Clean dst.old out }
-    ensures onward { Onward packet.now selector dst.old out (state_of width reader) dst.new result.value (state_of result.width result.reader) }
+    requires underway { Underway dst.old out width reader }
+    ensures onward { Onward packet.now selector.number dst.old out (state_of width reader) dst.new result.value (state_of result.width result.reader) }
     ensures done { (out < result.value) × (result.value < length dst.old + 4) × Ready packet.now result.reader }
 {
     let left = (dst.len() - out + 3) / 4;
@@ -670,18 +663,15 @@ fn plain(
 fn halts(reader: BitReader, width: u64) -> bool
     ensures { (result ≡ true → Halted (state_of width reader)) × (result ≡ false → ((as_reader reader).status ≡ 0) × (width ≤ 19)) }
 {
-    if reader.status.stops() {
-        return true;
-    }
-    19 < width
+    reader.status.stops() || 19 < width
 }
 
-// One row of coefficients, as many as the slice has elements: the reader after it.
-fn decode_row(reader: BitReader, packet: &[u8], dst: &mut [i32], selector: u64) -> BitReader
+// One row of coefficients, as many as the slice has elements: the reader after it. It is a `while`: what is read decides how far a turn goes.
+fn decode_row(reader: BitReader, packet: &[u8], dst: &mut [i32], selector: Selector) -> BitReader
     requires ready { Ready packet.now reader }
-    requires selector_bound { (selector < 16) × (length dst.old < 2 ^ 32) }
-    ensures value { as_reader result ≡ (row_of packet.now selector (length dst.old) (as_reader reader)).reader }
-    ensures dst_after { dst.new ≡ (row_of packet.now selector (length dst.old) (as_reader reader)).values }
+    requires size { length dst.old < 2 ^ 32 }
+    ensures value { as_reader result ≡ (row_of packet.now selector.number (length dst.old) (as_reader reader)).reader }
+    ensures dst_after { dst.new ≡ (row_of packet.now selector.number (length dst.old) (as_reader reader)).values }
     ensures still_ready { Ready packet.now result }
 {
     let n = dst.len();
@@ -711,30 +701,23 @@ fn decode_row(reader: BitReader, packet: &[u8], dst: &mut [i32], selector: u64) 
     r
 }
 
-// The bits that a row took from the allowance, and the reader after it.
-#[derive(Clone, Copy)]
-pub struct RowAnswer {
-    pub bits: u64,
-    pub reader: BitReader,
-}
-
-// One row of coefficients, and what it took.
+// One row of coefficients: the bits that it took from the allowance, and the reader after it.
 pub fn decode_component(
     reader: BitReader,
     packet: &[u8],
     dst: &mut [i32],
-    selector: u64,
-) -> RowAnswer
+    selector: Selector,
+) -> Taken<u64>
     requires ready { Ready packet.now reader }
-    requires selector_bound { (selector < 16) × (length dst.old < 2 ^ 32) }
-    ensures bits { result.bits ≡ row_used packet.now selector (length dst.old) (as_reader reader) }
-    ensures reader_after { as_reader result.reader ≡ (row_of packet.now selector (length dst.old) (as_reader reader)).reader }
-    ensures dst_after { dst.new ≡ (row_of packet.now selector (length dst.old) (as_reader reader)).values }
+    requires size { length dst.old < 2 ^ 32 }
+    ensures bits { result.value ≡ row_used packet.now selector.number (length dst.old) (as_reader reader) }
+    ensures reader_after { as_reader result.reader ≡ (row_of packet.now selector.number (length dst.old) (as_reader reader)).reader }
+    ensures dst_after { dst.new ≡ (row_of packet.now selector.number (length dst.old) (as_reader reader)).values }
     ensures still_ready { Ready packet.now result.reader }
 {
     let after = decode_row(reader, packet, dst, selector);
-    RowAnswer {
-        bits: reader.remaining.saturating_sub(after.remaining),
+    Taken {
+        value: reader.remaining.saturating_sub(after.remaining),
         reader: after,
     }
 }

@@ -1,8 +1,6 @@
 -- Laws of the search for a tile: offset 512, the candidates in turn. Assumes nothing.
-use Rattle.std.proofs.Common.{◌≡◌, ℕ, zero, suc, ◌+◌, ◌-◌, ◌*◌, ◌≤◌, ◌<◌, List, [], ◌∷◌, Option, Some, None, Bool, true, false, cond, ◌&&◌, length, drop, leb, refl, arith, sym, subst, MatchOption, IfSome, IsSomeAnd, IsTrue, option_map, option_and_then, ◌∙◌, ◌/◌}
+use Rattle.std.proofs.Common.{◌≡◌, ℕ, zero, suc, ◌+◌, ◌-◌, ◌*◌, ◌≤◌, ◌<◌, List, [], ◌∷◌, Option, Some, None, Bool, true, false, cond, ◌&&◌, length, drop, leb, refl, arith, sym, subst, MatchOption, IfSome, IsSomeAnd, IsTrue, option_map, option_and_then, ◌∙◌, ◌/◌, le-leb, eqb}
 use native.Mathlib.Numerals.{unary_clauses}
-use borrow.Author.Tests.{le-leb}
-use lib.Dec.{eqb}
 use Rattle.format.specs.Strip.{Tile, only_if, tile_at, valid_header, payload, alone, listed, or_else, first_taken}
 use Rattle.strip.specs.declared.TileStream.{TileStream}
 use Rattle.strip.specs.Answers.{stream_tile, stream_of, located_tile_of, listed_of}

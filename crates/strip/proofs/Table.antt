@@ -1,9 +1,7 @@
 -- Laws of the table's tiles, and of a strip's. Assumes nothing.
-use Rattle.std.proofs.Common.{◌≡◌, ℕ, zero, suc, ◌+◌, ◌≤◌, ◌<◌, List, [], ◌∷◌, ◌++◌, map, length, get_or, slice_get, Result, Ok, Err, Option, Some, None, option_map, Bool, true, false, cond, refl, sym, ap, ◌∙◌, arith, add-zero, zero-add, length-append}
-use mathlib.Core.Logic.{⊎_elim, ◌≢◌}
+use Rattle.std.proofs.Common.{◌≡◌, ℕ, zero, suc, ◌+◌, ◌≤◌, ◌<◌, List, [], ◌∷◌, ◌++◌, map, length, get_or, slice_get, Result, Ok, Err, Option, Some, None, option_map, Bool, true, false, cond, refl, sym, ap, ◌∙◌, arith, add-zero, zero-add, length-append, ⊎_elim, ◌≢◌, le-ltb, ne_eqb}
 use Rattle.std.specs.Option.{option_or, option_map_or}
 use Rattle.refusals.specs.declared.Refusal.{Refusal}
-use borrow.Author.Tests.{le-leb, le-ltb, ne_eqb}
 use Rattle.wrap32.proofs.Laws.{of-cond}
 use Rattle.format.proofs.BitLaws.{le-or-lt}
 use Rattle.format.specs.Bits.{little32}
@@ -49,12 +47,6 @@ one_more (Some ts) (Some u) tiles t e found = let both = map_snoc ts u in cc
 one_more (Some ts) None tiles t e found = cc
 one_more None o tiles t e found = cc
 
-whole : (r : Option (List Tile)) (tiles : List TileStream) → recorded r ≡ Some tiles → 1 ≤ length tiles → listed_of (table_or r []) ≡ Some tiles
-whole (Some []) [] e low = absurd (omega arith)
-whole (Some []) (t ∷ tiles) e low = cc
-whole (Some (t ∷ ts)) tiles e low = e
-whole None tiles e low = cc
-
 module _ (strip : List ℕ) (w h : ℕ) where
   entries-snoc : (a n : ℕ) → entry_tiles strip w h a (suc n) ≡ snoc (entry_tiles strip w h a n) (entry_tile strip w h (a + n))
   unfolding entry_tiles
@@ -81,10 +73,6 @@ module _ (strip : List ℕ) (w h : ℕ) where
   abbrev pub Gathered : List TileStream → ℕ → Type 0
   Gathered tiles i = (recorded (entry_tiles strip w h 0 i) ≡ Some tiles) × (length tiles ≡ i)
 
-  pub gathered_none : Gathered [] 0
-  unfolding entry_tiles
-  gathered_none = (refl, refl)
-
   pub gathered_on : (tiles : List TileStream) (i : ℕ) (t : TileStream) → Gathered tiles i → located_tile_of (entry_tile strip w h i) ≡ Some t
       → Gathered (tiles ++ t ∷ []) (i + 1)
   gathered_on tiles i t (same, long) found =
@@ -92,13 +80,6 @@ module _ (strip : List ℕ) (w h : ℕ) where
         rw (next, snoc-last i) (one_more (entry_tiles strip w h 0 i) (entry_tile strip w h i) tiles t same found),
         omega (arith, long, length-append tiles (t ∷ [])),
       )
-
-  -- the whole table
-  pub gathered_all : (tiles : List TileStream) (n : ℕ) → Gathered tiles n → n ≡ little32 strip 0 → 1 ≤ n → n ≤ 16
-      → listed_of (table_tiles strip w h) ≡ Some tiles
-  unfolding table_tiles
-  gathered_all tiles n (same, long) count low high =
-      rw (← count, le-leb 1 n low, le-leb n 16 high) (whole (entry_tiles strip w h 0 n) tiles same (omega (arith, long)))
 
   -- an entry that fails
   pub gathered_fail : (i n : ℕ) → located_tile_of (entry_tile strip w h i) ≡ None → i < n → n ≡ little32 strip 0 → table_tiles strip w h ≡ []

@@ -1,29 +1,24 @@
 -- The answers of the header and of the locator, with document 01's number and values for each case.
-use Rattle.std.specs.Prelude.{Option, Some, None, option_map, ok_or, Result, Ok, Err, ◌≡◌, List, [], ◌∷◌, map, Bool, true, false, not, cond, ◌&&◌, ℕ, zero, suc, ◌+◌, ◌-◌, ◌^◌, ◌≤◌, ◌<◌, leb, eqb, length, get_or, drop}
+use Rattle.std.specs.Prelude.{Option, Some, None, option_map, ok_or, Result, Ok, Err, ◌≡◌, List, [], ◌∷◌, map, Bool, true, false, not, cond, ◌&&◌, ℕ, zero, suc, ◌+◌, ◌-◌, ◌≤◌, leb, eqb, length, get_or, drop}
 use Rattle.format.specs.Bits.{little32}
 use Rattle.format.specs.Strip as strip
 use Rattle.format.specs.Refusals.{on}
 use Rattle.format.specs.Strip.{Tile, valid_header, only_if, tile_at, unless0, word, has_table, entry_tiles, table_or}
+use Rattle.fields.specs.declared.size.Size.{Size}
 use Rattle.refusals.specs.declared.Refusal.{Refusal}
 use Rattle.refusals.specs.declared.Refusal.TheVariants.{NoTile, InvalidHeader}
 use Rattle.strip.specs.declared.TileStream.{TileStream}
-use Rattle.strip.specs.declared.Header.{Header}
 
 -- ---- the header
-
--- the coded size where the header is valid, else its refusal
-unfoldable pub header_of : List ℕ → Result Header Refusal
-header_of s = cond (valid_header s) (Ok (record { width = strip.width s; height = strip.coded_height s })) (Err InvalidHeader)
 
 -- the number of a header's check: 2, header invalid
 abbrev pub header_refusal : List ℕ → ℕ
 header_refusal s = on (not (valid_header s)) 2
 
 -- what each answer says of a stream: no refusal, w and H; or refusal 2
-abbrev pub HeaderSays : List ℕ → Result Header Refusal → Type 0
+abbrev pub HeaderSays : List ℕ → Result Size Refusal → Type 0
 HeaderSays s (Ok h) =
-    (valid_header s ≡ true) × (128 ≤ length s) × (h.width ≡ strip.width s) × (h.height ≡ strip.coded_height s)
-    × (h.width < 2 ^ 16) × (h.height < 2 ^ 17) × (header_refusal s ≡ 0)
+    (valid_header s ≡ true) × (128 ≤ length s) × (h.width ≡ strip.width s) × (h.height ≡ strip.coded_height s) × (header_refusal s ≡ 0)
 HeaderSays s (Err r) = (valid_header s ≡ false) × (r ≡ InvalidHeader) × (header_refusal s ≡ 2)
 
 -- ---- the tiles

@@ -1,11 +1,12 @@
 // The stream header and the locator of tiles in a strip: document 01, 'Strip'.
 #![tactic(auto)]
 
-ghost use Rattle.std.specs.Prelude.{◌≡◌, ◌&&◌, ◌+◌, ◌^◌, ◌<◌, ◌≤◌, List, [], ◌∷◌, ◌++◌, MatchOption, IfSome, eqb, length, take, get_or, slice_get};
+ghost use Rattle.std.specs.Prelude.{◌≡◌, ◌&&◌, ◌+◌, ◌^◌, ◌<◌, ◌≤◌, List, [], ◌∷◌, ◌++◌, MatchOption, IfSome, eqb, length, get_or, slice_get};
 ghost use Rattle.format.specs.Strip.{valid_header, magic, sides, marks, payload, unless0, word, entry_start, candidate, entry_tile, alone, listed, tiles_of};
-ghost use Rattle.strip.specs.Answers.{header_of, HeaderSays, stream_tile, located_tile_of, placed, listed_of, located_of, table_tiles, stream_fields, tile_field};
+ghost use Rattle.strip.specs.Answers.{HeaderSays, stream_tile, located_tile_of, placed, listed_of, located_of, table_tiles, stream_fields, tile_field};
 
-use fields::Stream;
+use arrayvec::ArrayVec;
+use fields::{Size, Stream};
 use refusals::Refusal;
 use std::marker::Model;
 use words::le32;
@@ -39,7 +40,7 @@ impl TileStream {
     // Where a tile's stream starts in the strip, unless the table says where.
     pub const OFFSET: usize = 512;
 
-    // Field 0 to 5 in their order; any other is 0.
+    // Field 0 to 5 in their order; any other is 0. C gives the number.
     pub fn field(self, field: usize) -> usize
         ensures { result ≡ get_or (stream_fields self) field 0 }
     {
@@ -53,13 +54,6 @@ impl TileStream {
             _ => 0,
         }
     }
-}
-
-// The coded size that a valid header tells.
-#[derive(Clone, Copy)]
-pub struct Header {
-    pub width: usize,
-    pub height: usize,
 }
 
 // What a stream starts with: its header's 128 bytes, and what comes after them.
@@ -112,16 +106,12 @@ impl<'a> Start<'a> {
     }
 
     // The coded size, if the header is valid.
-    #[tactic(auto, unfolding(format::specs::Strip::valid_header, crate::specs::Answers::header_of))]
-    fn header(&self) -> Result<Header, Refusal>
-        ensures value { result ≡ header_of self.now.stream }
-        ensures header_says { HeaderSays self.now.stream result }
+    #[tactic(auto, unfolding(format::specs::Strip::valid_header))]
+    fn header(&self) -> Result<Size, Refusal>
+        ensures { HeaderSays self.now.stream result }
     {
         if self.is_magic() && self.has_sides() && self.has_marks() {
-            return Ok(Header {
-                width: self.stream.width(),
-                height: self.stream.coded_height(),
-            });
+            return Ok(self.stream.size());
         }
         Err(Refusal::InvalidHeader)
     }
@@ -140,10 +130,9 @@ impl<'a> Start<'a> {
 }
 
 // The coded size, if the stream starts with a valid header.
-#[tactic(auto, unfolding(format::specs::Strip::valid_header, crate::specs::Answers::header_of))]
-pub fn parse_stream_header(stream: &[u8]) -> Result<Header, Refusal>
-    ensures value { result ≡ header_of stream.now }
-    ensures header_says { HeaderSays stream.now result }
+#[tactic(auto, unfolding(format::specs::Strip::valid_header))]
+pub fn parse_stream_header(stream: &[u8]) -> Result<Size, Refusal>
+    ensures { HeaderSays stream.now result }
 {
     match Start::of(stream) {
         Some(start) => start.header(),
@@ -151,22 +140,19 @@ pub fn parse_stream_header(stream: &[u8]) -> Result<Header, Refusal>
     }
 }
 
-// The tiles of a strip in order, at most TILES: in an array, since the decoder has no heap.
+// The tiles of a strip in order, at most TILES: in a vector of that capacity, since the decoder has no heap.
 #[derive(Drop)]
 pub struct Tiles {
-    tiles: [TileStream; TILES],
-    count: usize,
+    tiles: ArrayVec<TileStream, TILES>,
 }
 
 impl Model for Tiles {
-    ghost use Rattle.std.specs.Prelude.{◌≤◌, List, take};
+    ghost use Rattle.std.specs.Prelude.{List};
     ghost use Rattle.strip.specs.declared.TileStream.{TileStream};
 
     ghost Value = { List TileStream };
 
-    ghost view = { λ t. take t.count t.tiles };
-
-    ghost invariant = { λ t. t.count ≤ 16 };
+    ghost view = { λ t. t.tiles.items };
 }
 
 impl Tiles {
@@ -175,8 +161,7 @@ impl Tiles {
         ensures { result ≡ [] }
     {
         Self {
-            tiles: [TileStream::default(); TILES],
-            count: 0,
+            tiles: ArrayVec::new(),
         }
     }
 
@@ -194,8 +179,7 @@ impl Tiles {
         requires { length self.old < 16 }
         ensures { self.new ≡ self.old ++ tile ∷ [] }
     {
-        self.tiles[self.count] = tile;
-        self.count += 1;
+        self.tiles.push(tile);
     }
 
     // The tiles in order.
@@ -203,7 +187,7 @@ impl Tiles {
         ensures value { result.now ≡ self.now }
         ensures most { length self.now ≤ 16 }
     {
-        &self.tiles[..self.count]
+        self.tiles.as_slice()
     }
 
     // How many there are.
@@ -238,6 +222,8 @@ struct Frame<'a> {
     ghost long: { 640 ≤ length strip.now },
 }
 
+// Entry i of the table goes by its number, below 16: a struct of the frame and the number would say `self.now.frame.strip` for `self.now.strip`
+// in each contract.
 impl<'a> Frame<'a> {
     // Word k of entry i of the table.
     fn entry_word(&self, i: usize, k: usize) -> usize
@@ -269,7 +255,7 @@ impl<'a> Frame<'a> {
     {
         let stream = self.strip.get(at..)?;
         let start = Start::of(stream)?;
-        let header = start.header().ok()?;
+        let size = start.header().ok()?;
         let payload = start.payload();
         let room = stream.len() - TileStream::HEADER;
         if payload < least || room < payload {
@@ -280,8 +266,8 @@ impl<'a> Frame<'a> {
             length: TileStream::HEADER + payload,
             x: 0,
             y: 0,
-            width: header.width,
-            height: header.height,
+            width: size.width,
+            height: size.height,
         })
     }
 
@@ -356,7 +342,7 @@ impl<'a> Frame<'a> {
     }
 }
 
-// Locate the tile streams of a strip that covers a frame of full_w by full_h.
+// Locate the tile streams of a strip that covers a frame of full_w by full_h. Here and below the three go apart, as C gives them.
 #[tactic(auto, using(crate::proofs::Table::found_is), unfolding(format::specs::Strip::tiles_of))]
 pub fn find_streams(strip: &[u8], full_w: usize, full_h: usize) -> Result<Tiles, Refusal>
     ensures { result ≡ located_of (tiles_of strip.now full_w full_h) }

@@ -1,13 +1,6 @@
 -- The lent slices: their sizes, and what each is after the call. Assumes nothing.
-use mathlib.Core.Path.{◌≡◌, sym, ap, ◌∙◌}
-use mathlib.Core.Bool.{Bool}
-use mathlib.Core.List.{List, ◌++◌}
-use Prim.Native.Nat.{ℕ, ◌+◌, ◌*◌, ◌/◌, ◌^◌, ◌<◌, ◌≤◌}
-use Rattle.std.proofs.Common.{Ok}
-use native.Mathlib.Nat.{mul-le-mul_right}
-use native.Mathlib.Omega.{arith}
-use lib.IntN.{ℤ, pos}
-use lib.ListN.{drop, length-replicate}
+use Rattle.std.proofs.Common.{◌≡◌, sym, ap, ◌∙◌, Bool, List, ◌++◌, ℕ, ◌+◌, ◌*◌, ◌/◌, ◌≤◌, Ok, mul-le-mul_right, arith, ℤ, pos, drop}
+use lib.ListN.{length-replicate}
 use Rattle.format.specs.Sizes.{Colour, green, red, stripes, guarded, plane_rows, plane_rows_of, plane_columns, work_length}
 use Rattle.format.specs.Strip.{width, coded_height}
 use Rattle.format.specs.Coefficients.{zeros, coefs}
@@ -30,10 +23,6 @@ use Rattle.tile.specs.Decode.{onto}
 pub ring-room : (g : Bool) (w n : ℕ) → Sized g w n → 6 * (w / 4) ≤ plane_rows g n * w
 ring-room g w n s = let m : 8 * w ≤ plane_rows g n * w = mul-le-mul_right w (planes-least g n s.tall) in omega arith
 
--- a row of w numbers is no longer than 16 units
-pub row-units : (z : Plan) → Fits z 0 → z.w ≤ 16 * unit_of z
-row-units z f = let m = mul-le-mul_right (z.w / 16) f.1.some in omega (arith, m, f.0.whole)
-
 -- ---- the lent slices
 
 -- an accepted stream, its coded size w by h, and what is reckoned from that, with lent slices so long
@@ -49,9 +38,6 @@ pub record Lent (s : List ℕ) (green_n red_n blue_n work_n w h n : ℕ) (g : Bo
 
 -- by what the check says that the stream needs
 module _ (s : List ℕ) (need : Lengths) (is : needs (Ok need) ≡ lengths_of s) where
-  pub low_height : {green_n red_n blue_n work_n : ℕ} → Accepted s green_n red_n blue_n work_n → need.height < 2 ^ 17
-  low_height ok = omega (arith, ap (λ (x : tile.Lengths). x.height) (needed_is s need is), ok.good.low)
-
   pub enough : {green_n red_n blue_n work_n : ℕ} → Accepted s green_n red_n blue_n work_n → (need.green ≤ green_n) × (need.red ≤ red_n) × (need.blue ≤ blue_n) × (need.work ≤ work_n)
   enough ok =
       let e = needed_is s need is in (
@@ -64,8 +50,8 @@ module _ (s : List ℕ) (need : Lengths) (is : needs (Ok need) ≡ lengths_of s)
   pub blue-as-red : need.blue ≡ need.red
   blue-as-red = ap (λ (x : tile.Lengths). x.blue) (needed_is s need is) ∙ sym (ap (λ (x : tile.Lengths). x.red) (needed_is s need is))
 
-  pub lent_of : {green_n red_n blue_n work_n : ℕ} → Accepted s green_n red_n blue_n work_n → (n : ℕ) (g : Bool) → n ≡ stripes need.height → g ≡ guarded need.height
-      → Lent s green_n red_n blue_n work_n need.width need.height n g need.green need.red need.work
+  pub lent_of : {green_n red_n blue_n work_n : ℕ} → Accepted s green_n red_n blue_n work_n → (n : ℕ) (g : Bool) → n ≡ stripes need.size.height → g ≡ guarded need.size.height
+      → Lent s green_n red_n blue_n work_n need.size.width need.size.height n g need.green need.red need.work
   lent_of ok n g many guard =
       let e = needed_is s need is in record {
         ok = ok;

@@ -1,8 +1,5 @@
 -- No wrap in ordinary frames, in terms of `decode_stream`: what it left of a stream whose selectors are all 4 at most. Assumes nothing.
-use mathlib.Core.Path.{◌≡◌, sym, ap, ◌∙◌, subst}
-use mathlib.Core.List.{List, map}
-use Prim.Native.Nat.{ℕ, ◌<◌}
-use lib.IntN.{ℤ, nat_abs}
+use Rattle.std.proofs.Common.{◌≡◌, sym, ap, ◌∙◌, subst, List, map, ℕ, ◌<◌, ℤ, nat_abs}
 use Rattle.wrap32.specs.Arithmetic.{wrapping, whole, number, checked}
 use Rattle.lists.specs.Lists.{Each}
 use Rattle.format.specs.Sizes.{Colour}

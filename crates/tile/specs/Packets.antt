@@ -8,6 +8,7 @@ use Rattle.format.specs.Sizes.{Colour, l1, l2, l3, Group, base, detail, final, g
 use Rattle.format.specs.Strip.{width, coded_height}
 use Rattle.format.specs.Table.{mode}
 use Rattle.passes.specs.declared.Plan.{Plan}
+use Rattle.passes.specs.Plan.{Fits}
 use Rattle.records.specs.declared.Counts.{Counts}
 use Rattle.records.specs.declared.Finish.{Finish}
 use Rattle.records.specs.declared.Finish.TheVariants.{Sums, Edges, Nothing}
@@ -19,6 +20,10 @@ pub record Measured (s : List ℕ) (z : Plan) : Type 0 where
   pub wide : z.w ≡ width s
   pub tall : z.n ≡ stripes (coded_height s)
   pub guard : z.guarded ≡ guarded (coded_height s)
+
+-- a plan of a whole tile: its block starts the work slice, and its slots hold all records
+abbrev pub Whole : Plan → Type 0
+Whole z = Fits z 0 × (z.slots ≡ z.n + 1)
 
 -- ---- as the code has it
 -- where a group's records are held, in a block from `at` on

@@ -1,7 +1,7 @@
 -- The rows of a level undone down the columns. Assumes nothing.
 use Rattle.std.proofs.Common.{◌≡◌, refl, sym, ap, ◌∙◌, List, ⊎_elim, ℕ, ◌+◌, ◌-◌, ◌*◌, ◌≤◌, ◌<◌, min, arith, eq-eqb, ne_eqb, eqb-true, eqb, ℤ, pos, length}
-use borrow.Author.Tests.{eqb-false}
-use lib.Signed.{shr_z}
+use Rattle.std.proofs.lemmas.Bool.{eqb-false}
+use Rattle.std.specs.Int.Signed.{shr_z}
 use Rattle.wrap32.specs.Cut.{add_w, sub_w}
 use Rattle.wrap32.specs.Arithmetic.{wrapping}
 use Rattle.lists.proofs.Tab.{length-tab, get_or-tab, tab-same}

@@ -1,6 +1,6 @@
 -- A level undone in its rows is `ll_of` and `band_of` of the plane that stood there. Assumes nothing.
 use Rattle.std.proofs.Common.{◌≡◌, refl, sym, ap, ◌∙◌, List, ◌++◌, inl, inr, ⊎_elim, ℕ, ◌+◌, ◌-◌, ◌*◌, ◌≤◌, ◌<◌, mul-le-mul_left, mul-le-mul_right, arith, ℤ, pos, length, get_or-append-add}
-use lib.ListN.{get_or-append}
+use Rattle.std.proofs.Math.ListN.{get_or-append}
 use Rattle.lists.specs.Lists.{Apart, part, tab}
 use Rattle.lists.proofs.Tab.{length-tab, get_or-tab, tab-same, get_d_part, part-tab}
 use Rattle.format.specs.Lifting.{Signal, Plane, Lead, low_leads, high_leads, highs_of, lows_of, Shape}

@@ -1,6 +1,7 @@
 -- The laws of the rows of synthesis undone. Assumes nothing.
-use Rattle.std.proofs.Common.{◌≡◌, refl, sym, ap, ◌∙◌, cond, List, ◌++◌, append_assoc, inl, inr, ⊎_elim, ℕ, ◌+◌, ◌-◌, ◌*◌, ◌^◌, ◌≤◌, ◌<◌, min, arith, eq-eqb, ne_eqb, eqb, ℤ, pos, negsuc, ◌+ℤ◌, length, take, drop, set, length-append, length-take-le, drop_at, drop-drop, w32, SFits}
-use lib.Signed.{mag, shr_z}
+use Rattle.std.proofs.Common.{◌≡◌, refl, sym, ap, ◌∙◌, cond, List, ◌++◌, append_assoc, inl, inr, ⊎_elim}
+use Rattle.std.proofs.Common.{ℕ, ◌+◌, ◌-◌, ◌*◌, ◌^◌, ◌≤◌, ◌<◌, min, arith, eq-eqb, ne_eqb, eqb, ℤ, pos, negsuc, ◌+ℤ◌, length, take, drop, set, length-append, length-take-le, drop_at, drop-drop, w32, SFits}
+use Rattle.std.specs.Int.Signed.{mag, shr_z}
 use Rattle.wrap32.specs.Cut.{add_w, sub_w}
 use Rattle.wrap32.specs.Arithmetic.{wrapping}
 use Rattle.wrap32.proofs.Laws.{stored, add_w-fits, add_w-plain, shr-fits, mag-add}

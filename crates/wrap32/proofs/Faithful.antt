@@ -1,8 +1,8 @@
 -- What `wrapping` and `checked` have in common with whole numbers: both are faithful within 32 bits. A law for each operation then carries a
 -- bound along, for any faithful arithmetic. Assumes nothing.
 use Rattle.std.proofs.Common.{◌≡◌, refl, ap, ◌∙◌, Bool, true, false, cond, ℕ, zero, suc, ◌+◌, ◌/◌, ◌^◌, ◌≤◌, ◌<◌, lt_of_lt_of_le, arith, lt-ltb, ℤ, pos, negsuc, ◌+ℤ◌, ◌-ℤ◌, w32, SFits}
-use mathlib.Core.Bool.{beq}
-use lib.Signed.{mag, shr_z}
+use Rattle.std.proofs.Math.Bool.{beq}
+use Rattle.std.specs.Int.Signed.{mag, shr_z}
 use Rattle.wrap32.specs.Arithmetic.{Arithmetic, wrapping, whole, outside, number, within, both, alone, checked}
 use Rattle.wrap32.specs.Edge.{sign_of, is_odd, edge_detail}
 use Rattle.wrap32.proofs.Laws.{add_w-plain, sub_w-plain, cut-id, mag-add, mag-diff, mag-half, mag-quarter}

@@ -1,11 +1,5 @@
 -- The whole outcome of a call: refused before anything is changed, or by its planes. Assumes nothing.
-use mathlib.Core.Path.{◌≡◌, refl, ◌∙◌}
-use mathlib.Core.List.{List, ◌++◌}
-use Prim.Native.Nat.{ℕ, ◌≤◌}
-use native.Mathlib.Omega.{arith}
-use lib.IntN.{ℤ}
-use lib.ListN.{length, drop}
-use borrow.Author.Tests.{eq-eqb, ne_eqb}
+use Rattle.std.proofs.Common.{◌≡◌, refl, ◌∙◌, List, ◌++◌, ℕ, ◌≤◌, arith, ℤ, length, drop, eq-eqb, ne_eqb}
 use Rattle.format.specs.Coefficients.{zeros}
 use Rattle.format.specs.Sizes.{Colour, green, red, blue, work_length}
 use Rattle.format.specs.Recovery.{recover}

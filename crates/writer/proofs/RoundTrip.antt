@@ -1,15 +1,6 @@
 -- The round trip, in terms of both functions' contracts: what `write_stream` accepts, `decode_stream` accepts with slices that are long enough,
 -- and gives exactly these planes, no record stopped; and `write_stream` gives the same bytes of these again. Assumes nothing.
-use mathlib.Core.Path.{◌≡◌, refl, sym, ap, ◌∙◌}
-use mathlib.Core.List.{List, ◌++◌}
-use Prim.Native.Nat.{ℕ, ◌*◌, ◌≤◌}
-use native.Mathlib.Omega.{arith}
-use lib.IntN.{ℤ, pos}
-use lib.ListN.{length, get_or, take, drop, length-append, length-take}
-use lib.Seq.{take_at}
-use borrow.Author.Tests.{le-ltb}
-use mir.Syntax.{w32}
-use mir.Val.{SFits}
+use Rattle.std.proofs.Common.{◌≡◌, refl, sym, ap, ◌∙◌, List, ◌++◌, ℕ, ◌*◌, ◌≤◌, arith, ℤ, pos, length, get_or, take, drop, length-append, length-take, take_at, le-ltb, w32, SFits}
 use Rattle.format.specs.Sizes.{Colour, green, red, blue, plane_rows_of, plane_columns, work_length}
 use Rattle.format.specs.Refusals.{short_refusal, refusal}
 use Rattle.format.specs.Coefficients.{tile_sum}

@@ -1,13 +1,7 @@
 -- The answer of coefficients that are written, and the stream after it. Assumes nothing.
-use mathlib.Core.Path.{◌≡◌, refl}
-use mathlib.Core.List.{List, ◌++◌}
-use Prim.Native.Nat.{ℕ, ◌≤◌, ◌<◌}
-use native.Mathlib.Omega.{arith}
-use lib.ListN.{length, drop}
-use borrow.Author.Tests.{ne_eqb, lt-ltb, le-ltb}
+use Rattle.std.proofs.Common.{Result, Ok, Err, ap, ◌≡◌, refl, List, ◌++◌, ℕ, ◌≤◌, ◌<◌, arith, length, drop, ne_eqb, lt-ltb, le-ltb}
 use Rattle.format.specs.Coefficients.{Coefs}
 use Rattle.format.specs.Writing.{Written, lengths_refusal, stream_length, stream_of}
-use Rattle.std.proofs.Common.{Result, Ok, Err, ap}
 use Rattle.std.specs.Result.{IsErrAnd}
 use Rattle.refusals.specs.declared.Refusal.{Refusal}
 use Rattle.refusals.specs.Number.{number_of}

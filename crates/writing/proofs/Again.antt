@@ -1,18 +1,8 @@
 -- The planes of the coefficients that recovery makes of them are the planes again, where no number is refused by 25. Assumes nothing.
-use mathlib.Core.Path.{◌≡◌, refl, sym, ap, ◌∙◌}
-use mathlib.Core.Bool.{Bool, false}
-use mathlib.Core.List.{List, ◌++◌}
-use Prim.Native.Nat.{ℕ, zero, suc, ◌+◌, ◌*◌, ◌/◌, ◌%◌, ◌≤◌, ◌<◌}
-use native.Mathlib.Omega.{arith}
-use lib.IntN.{ℤ, pos}
-use lib.ListN.{length, get_or, take, drop}
-use lib.Seq.{take-add}
-use native.Mathlib.Nat.{zero-mul}
+use Rattle.std.proofs.Common.{◌≡◌, refl, sym, ap, ◌∙◌, Bool, false, List, ◌++◌, ℕ, zero, suc, ◌+◌, ◌*◌, ◌/◌, ◌%◌, ◌≤◌, ◌<◌, arith, ℤ, pos, length, get_or, take, drop, take-add, zero-mul, w16, w32, SFits}
 use Rattle.wrap32.specs.Arithmetic.{wrapping}
 use Rattle.lists.specs.Lists.{rows}
 use Rattle.lists.proofs.Tab.{tab-of, tab-cong, get_d_part, length_part}
-use mir.Syntax.{w16, w32}
-use mir.Val.{SFits}
 use Rattle.wrap32.specs.Cut.{cut, sub_w}
 use Rattle.wrap32.specs.Edge.{edge_detail}
 use Rattle.wrap32.proofs.Laws.{cut-id, add-sub, add_w-comm}

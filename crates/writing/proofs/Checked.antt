@@ -1,14 +1,6 @@
 -- What a call that no check refuses gives: sizes, lengths, and numbers that can be written. Assumes nothing.
-use mathlib.Core.Path.{◌≡◌, refl, sym, ap, subst}
-use mathlib.Core.List.{List}
-use mathlib.Core.Bool.{Bool, true, false, not, ◌&&◌, ◌||◌, true≢false}
-use Prim.Native.Nat.{ℕ, zero, suc, ◌*◌, ◌/◌, ◌%◌, ◌^◌, ◌≤◌, ◌<◌}
-use native.Mathlib.Omega.{arith}
-use lib.IntN.{ℤ, pos, negsuc, nat_abs}
-use lib.Dec.{eqb, ltb}
-use borrow.Author.Tests.{ltb-false, eqb-true, eqb-false, not-false}
-use mir.Syntax.{w16}
-use mir.Val.{SFits}
+use Rattle.std.proofs.Common.{◌≡◌, refl, sym, ap, subst, List, Bool, true, false, not, ◌&&◌, ◌||◌, true≢false, ℕ, zero, suc, ◌*◌, ◌/◌, ◌%◌, ◌^◌, ◌≤◌, ◌<◌, arith, ℤ, pos, negsuc, nat_abs, eqb, ltb, ltb-false, eqb-true, w16, SFits}
+use Rattle.std.proofs.lemmas.Bool.{eqb-false, not-false}
 use Rattle.wrap32.specs.Cut.{cut}
 use Rattle.wrap32.specs.Edge.{eq_z, edge_detail}
 use Rattle.wrap32.specs.Arithmetic.{wrapping}

@@ -1,12 +1,6 @@
 -- A written stream is accepted, and its coefficients are those that were written. Assumes nothing.
-use mathlib.Core.Path.{◌≡◌, refl, ap, ◌∙◌, subst}
-use mathlib.Core.List.{List}
-use mathlib.Core.Bool.{true, false, false≢true}
-use Prim.Native.Nat.{ℕ, zero, suc, ◌+◌, ◌*◌, ◌/◌, ◌%◌, ◌^◌, ◌≤◌, ◌<◌}
-use native.Mathlib.Omega.{arith}
-use lib.IntN.{pos, nat_abs}
-use lib.ListN.{length, get_or}
-use borrow.Author.Tests.{le-leb, lt-ltb, le-ltb, eq-eqb, ne_eqb}
+use Rattle.std.proofs.Common.{◌≡◌, refl, ap, ◌∙◌, subst, List, true, false, ℕ, zero, suc, ◌+◌, ◌*◌, ◌/◌, ◌%◌, ◌^◌, ◌≤◌, ◌<◌, arith, pos, nat_abs, length, get_or, le-leb, lt-ltb, le-ltb, eq-eqb, ne_eqb}
+use Rattle.std.proofs.lemmas.Bool.{false≢true}
 use Rattle.format.specs.Sizes.{Colour, green, red, blue, index, l1, l2, l3, Group, base, detail, final, number, present, stripes, multiplier, components, columns, numbered, indexed}
 use Rattle.format.specs.Strip.{magic, sides, marks, valid_header, group_size}
 use Rattle.format.specs.Packets.{sum, entry_count, packet_start, packet_length, has_entry, packet_of, kind}

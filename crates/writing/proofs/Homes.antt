@@ -1,10 +1,6 @@
 -- Each place of the table is one row's only: the band and the row that component c, row r, belong to. Assumes nothing.
-use mathlib.Core.Path.{◌≡◌, refl, ap}
-use mathlib.Core.Bool.{Bool, true, false, cond}
-use Prim.Native.Nat.{ℕ, zero, suc, ◌+◌, ◌-◌, ◌*◌, ◌≤◌, ◌<◌}
-use native.Mathlib.Omega.{arith}
-use lib.Dec.{eqb, ltb}
-use borrow.Author.Tests.{lt-ltb, le-ltb, ltb-true, ltb-false, eqb-true, eqb-false, eq-eqb, ne_eqb}
+use Rattle.std.proofs.Common.{◌≡◌, refl, ap, Bool, true, false, cond, ℕ, zero, suc, ◌+◌, ◌-◌, ◌*◌, ◌≤◌, ◌<◌, arith, eqb, ltb, lt-ltb, le-ltb, ltb-true, ltb-false, eqb-true, eq-eqb, ne_eqb}
+use Rattle.std.proofs.lemmas.Bool.{eqb-false}
 use Rattle.wrap32.proofs.Laws.{of-cond}
 use Rattle.format.specs.Sizes.{Level, l1, l2, l3, Tall}
 use Rattle.format.specs.Table.{height, highs, Source, Band, hl, lh, hh, plain1, first, middle, last, plain, guarded1, guarded2, guarded3, source, band_rows, chosen, from_component, from_row}

@@ -1,13 +1,6 @@
 -- The bits of the stream are bits, and packed into bytes they stand there. Assumes nothing.
-use mathlib.Core.Path.{◌≡◌, refl, ap, ◌∙◌}
-use mathlib.Core.List.{List, [], ◌∷◌, ◌++◌}
-use mathlib.Core.Logic.{⊎_elim}
-use Prim.Native.Nat.{ℕ, zero, suc, ◌+◌, ◌-◌, ◌*◌, ◌/◌, ◌%◌, ◌^◌, ◌≤◌, ◌<◌}
-use native.Mathlib.Omega.{arith}
-use lib.IntN.{ℤ, pos, negsuc}
-use lib.ListN.{length, get_or, get_or-append}
-use lib.Seq.{get_or-append-add}
-use lib.Dec.{eqb, ltb, leb}
+use Rattle.std.proofs.Common.{◌≡◌, refl, ap, ◌∙◌, List, [], ◌∷◌, ◌++◌, ⊎_elim, ℕ, zero, suc, ◌+◌, ◌-◌, ◌*◌, ◌/◌, ◌%◌, ◌^◌, ◌≤◌, ◌<◌, arith, ℤ, pos, negsuc, length, get_or, get_or-append-add, eqb, ltb, leb}
+use Rattle.std.proofs.Math.ListN.{get_or-append}
 use Rattle.wrap32.proofs.Laws.{of-cond}
 use Rattle.lists.specs.Lists.{tab, rows}
 use Rattle.lists.proofs.Tab.{get_or-tab, length-tab}

@@ -1,13 +1,7 @@
 -- A written packet is read back: its fields, its records' lengths and selectors, and its coefficients. Assumes nothing.
-use mathlib.Core.Path.{◌≡◌, refl, ap, ◌∙◌}
-use mathlib.Core.List.{List, ◌++◌}
-use mathlib.Core.Bool.{Bool, true, false}
-use Prim.Native.Nat.{ℕ, zero, suc, ◌+◌, ◌-◌, ◌*◌, ◌/◌, ◌%◌, ◌^◌, ◌≤◌, ◌<◌}
-use native.Mathlib.Omega.{arith}
-use lib.IntN.{nat_abs}
-use lib.ListN.{length, length-append, length-replicate}
-use lib.Dec.{eqb}
-use borrow.Author.Tests.{eq-eqb, ne_eqb, eqb-true, eqb-false}
+use Rattle.std.proofs.Common.{◌≡◌, refl, ap, ◌∙◌, List, ◌++◌, Bool, true, false, ℕ, zero, suc, ◌+◌, ◌-◌, ◌*◌, ◌/◌, ◌%◌, ◌^◌, ◌≤◌, ◌<◌, arith, nat_abs, length, length-append, eqb, eq-eqb, ne_eqb, eqb-true}
+use Rattle.std.proofs.lemmas.List.{length-replicate}
+use Rattle.std.proofs.lemmas.Bool.{eqb-false}
 use Rattle.lists.specs.Lists.{tab, rows}
 use Rattle.lists.proofs.Rows.{length-rows}
 use Rattle.format.specs.Sizes.{Colour, l1, l2, l3, Group, base, detail, final, multiplier, components, columns}
@@ -15,7 +9,7 @@ use Rattle.format.specs.Packets.{sum, control, extra, tag, zero4, kind, zero6, b
 use Rattle.format.specs.Reader.{Reader, start_of}
 use Rattle.format.specs.Coefficients.{Coefs, Stretch, Part, rows_of, coded_record, record_of}
 use Rattle.format.specs.Writing.{number_bits, zero_bits, row_bits, record_row, magnitudes, record_bits, units, filled, records, whole_record, record_bytes, record_head, head_units, payload_units, packet_head, packet_bits, packet_units}
-use Rattle.encoding.proofs.Widths.{length-number}
+use Rattle.codes.proofs.Pushed.{length-number}
 use Rattle.format.proofs.TurnLaws.{sum_same}
 use Rattle.encoding.proofs.Records.{length-filled}
 use Rattle.writing.proofs.Standing.{Stand, stand-left, stand-right, stand-rows, next-number, next-zeros, zeros-part, zeros-stand, At, past}

@@ -1,14 +1,5 @@
 -- A written packet is refused by no check. Assumes nothing.
-use mathlib.Core.Path.{◌≡◌, refl}
-use mathlib.Core.List.{List}
-use mathlib.Core.Bool.{true, ◌||◌}
-use mathlib.Core.Logic.{⊎_elim}
-use Prim.Native.Nat.{ℕ, zero, suc, ◌+◌, ◌*◌, ◌≤◌, ◌<◌}
-use native.Mathlib.Nat.{mul-le-mul_right}
-use native.Mathlib.Omega.{arith}
-use lib.ListN.{length}
-use lib.Dec.{eqb}
-use borrow.Author.Tests.{le-ltb, eq-eqb, ne_eqb}
+use Rattle.std.proofs.Common.{◌≡◌, refl, List, true, ◌||◌, ⊎_elim, ℕ, zero, suc, ◌+◌, ◌*◌, ◌≤◌, ◌<◌, mul-le-mul_right, arith, length, eqb, le-ltb, eq-eqb, ne_eqb}
 use Rattle.format.specs.Sizes.{Colour, Group, base, detail, final, components}
 use Rattle.format.specs.Packets.{sum, size_of, record_bit, record_length, payload_at}
 use Rattle.format.specs.Refusals.{each, record_refusal, packet_refusal}

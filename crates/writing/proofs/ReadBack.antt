@@ -1,21 +1,15 @@
 -- The reader takes back what was written: numbers, unaries, width updates and zero runs. Assumes nothing.
-use mathlib.Core.Path.{◌≡◌, ap, ◌∙◌}
-use mathlib.Core.List.{List, [], ◌∷◌, ◌++◌}
-use mathlib.Core.Logic.{⊎_elim}
-use mathlib.Core.Bool.{true}
-use Prim.Native.Nat.{ℕ, suc, ◌+◌, ◌-◌, ◌*◌, ◌^◌, ◌≤◌, ◌<◌, min}
-use native.Mathlib.Nat.{pow-suc}
-use native.Mathlib.Omega.{arith}
-use lib.ListN.{length-replicate}
-use lib.Dec.{eqb, ltb}
-use borrow.Author.Tests.{le-leb, lt-leb, lt-ltb, le-ltb, eq-eqb, eqb-true, eqb-false, ltb-true, ltb-false}
+use Rattle.std.proofs.Common.{◌≡◌, ap, ◌∙◌, List, [], ◌∷◌, ◌++◌, ⊎_elim, true, ℕ, suc, ◌+◌, ◌-◌, ◌*◌, ◌^◌, ◌≤◌, ◌<◌, min, pow-suc, arith, eqb, ltb, le-leb, lt-ltb, le-ltb, eq-eqb, eqb-true, ltb-true, ltb-false}
+use Rattle.std.proofs.lemmas.List.{length-replicate}
+use Rattle.std.proofs.lemmas.Bool.{lt-leb, eqb-false}
 use Rattle.wrap32.proofs.Laws.{of-cond}
 use Rattle.format.specs.Bits.{zeros_at}
 use Rattle.format.specs.Reader.{Reader, Taken, read_of, unary_of, find_of, update_of, update_first, update_second, run_of, run_found, bit_length}
 use Rattle.format.specs.Writing.{number_bits, zero_bits, unary_bits, update_bits, run_bits}
 use Rattle.format.proofs.BitLaws.{le-or-lt, zeros-found, zeros-all}
 use Rattle.format.proofs.RunLaws.{exponent_lt}
-use Rattle.encoding.proofs.Widths.{length-number, under-length, length-under, length_most, length_some}
+use Rattle.codes.proofs.Pushed.{length-number}
+use Rattle.encoding.proofs.Widths.{under-length, length-under, length_most, length_some}
 use Rattle.writing.proofs.Standing.{At, past, past-both, past-none, at_left, at_right, number-stands, zeros-stand, length-unary, unary-zeros, unary-one}
 
 -- a number read, and the reader past its bits

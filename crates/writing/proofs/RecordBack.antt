@@ -1,13 +1,6 @@
 -- A record's bits are decoded to its rows, its status 0. Assumes nothing.
-use mathlib.Core.Path.{◌≡◌, sym, ap, ◌∙◌, subst}
-use mathlib.Core.List.{List, ◌++◌, append-nil, append_assoc}
-use Prim.Native.Nat.{ℕ, zero, suc, ◌+◌, ◌*◌, ◌/◌, ◌^◌, ◌<◌}
-use native.Mathlib.Nat.{eq-or-lt_of_le, le_of_suc-le-suc}
-use native.Mathlib.Omega.{arith}
-use mathlib.Core.Logic.{◌⊎◌, inl, inr}
-use lib.IntN.{pos, nat_abs}
-use lib.ListN.{length, length-append, replicate-append-replicate}
-use lib.Dec.{eqb, ltb}
+use Rattle.std.proofs.Common.{◌≡◌, sym, ap, ◌∙◌, subst, List, ◌++◌, append-nil, append_assoc, ℕ, zero, suc, ◌+◌, ◌*◌, ◌/◌, ◌^◌, ◌<◌, eq-or-lt_of_le, le_of_suc-le-suc, arith, ◌⊎◌, inl, inr, pos, nat_abs, length, length-append, eqb, ltb}
+use Rattle.std.proofs.lemmas.List.{replicate-append-replicate}
 use Rattle.wrap32.proofs.Laws.{of-cond}
 use Rattle.lists.specs.Lists.{tab, rows}
 use Rattle.format.specs.Lifting.{Signal, Plane}

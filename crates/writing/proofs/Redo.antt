@@ -1,13 +1,6 @@
 -- What was undone is lifted again: lifting, a level and the final green, each from what recovery makes of its outcome. Assumes nothing.
-use mathlib.Core.Path.{◌≡◌, refl, ap, ◌∙◌}
-use mathlib.Core.Logic.{⊎_elim}
-use Prim.Native.Nat.{ℕ, ◌+◌, ◌*◌, ◌%◌, ◌<◌}
-use native.Mathlib.Omega.{arith}
-use lib.Dec.{eqb}
-use lib.IntN.{ℤ}
-use borrow.Author.Tests.{eqb-true, eqb-false}
-use mir.Syntax.{w32}
-use mir.Val.{SFits}
+use Rattle.std.proofs.Common.{◌≡◌, refl, ap, ◌∙◌, ⊎_elim, ℕ, ◌+◌, ◌*◌, ◌%◌, ◌<◌, arith, eqb, ℤ, eqb-true, w32, SFits}
+use Rattle.std.proofs.lemmas.Bool.{eqb-false}
 use Rattle.wrap32.specs.Arithmetic.{wrapping}
 use Rattle.wrap32.proofs.Laws.{of-cond, add_w-fits, sub_w-fits, sub-add, add-sub, shr-fits}
 use Rattle.wrap32.proofs.Bias.{green-again}

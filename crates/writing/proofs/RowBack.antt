@@ -1,24 +1,15 @@
 -- A row's bits are decoded to the row, and the reader stands right past them, its status 0. Assumes nothing.
-use mathlib.Core.Path.{◌≡◌, refl, sym, ap, ◌∙◌}
-use mathlib.Core.List.{List, [], ◌∷◌, ◌++◌, append_assoc}
-use mathlib.Core.Bool.{Bool, true, false, cond}
-use mathlib.Core.Logic.{⊎_elim}
+use Rattle.std.proofs.Common.{◌≡◌, refl, sym, ap, ◌∙◌, List, [], ◌∷◌, ◌++◌, append_assoc, Bool, true, false, cond, ⊎_elim, ℕ, zero, suc, ◌+◌, ◌-◌, ◌*◌, ◌/◌, ◌^◌, ◌≤◌, ◌<◌, arith, ℤ, pos, negsuc, nat_abs, take, take_at, leb, ltb, eqb, le-leb, lt-ltb, eq-eqb, ne_eqb, eqb-true, ltb-true}
+use Rattle.std.proofs.lemmas.Bool.{lt-leb, eqb-false}
 use Rattle.format.specs.Writing.{number_bits, unary_bits, update_bits, run_bits, sign_bits, group_width, zero_groups, value_bits, signs_bits, next_bits, after_run, groups_bits, padded, row_bits}
 use Rattle.format.proofs.BitLaws.{le-or-lt}
-use Prim.Native.Nat.{ℕ, zero, suc, ◌+◌, ◌-◌, ◌*◌, ◌/◌, ◌^◌, ◌≤◌, ◌<◌}
-use native.Mathlib.Omega.{arith}
-use lib.IntN.{ℤ, pos, negsuc, nat_abs}
-use lib.ListN.{take}
-use lib.Seq.{take_at}
-use lib.Dec.{leb, ltb, eqb}
-use borrow.Author.Tests.{le-leb, lt-leb, lt-ltb, eq-eqb, ne_eqb, eqb-true, eqb-false, ltb-true}
 use Rattle.wrap32.proofs.Laws.{of-cond}
 use Rattle.lists.specs.Lists.{tab}
 use Rattle.lists.proofs.Tab.{length-tab, tab-add, tab-same}
 use Rattle.format.specs.Lifting.{Signal}
 use Rattle.format.specs.Reader.{Reader, Taken, update_of}
 use Rattle.format.specs.Coefficients.{value_of, sign_of, Four, four_of, signs_of, width_next, group_of, width_after, zeros_of, Part, zeros, zeros_part, group_part, row_step, row_from, row_of}
-use Rattle.encoding.specs.Wrote.{Small}
+use Rattle.encoding.specs.Numbers.{Small}
 use Rattle.encoding.proofs.Widths.{largest, width-most, holds, held-0, held-1, held-2, held-3, run-most, run-some, run_ends}
 use Rattle.writing.proofs.Standing.{At, past, past-both, past-none, at_left, at_right}
 use Rattle.writing.proofs.ReadBack.{got, read_number, read-bit, read-unary, update-back, run-back}

@@ -1,16 +1,6 @@
 -- Recovery depends on no number beyond the places of the planes: its coefficients, and what refuses them. Assumes nothing.
-use mathlib.Core.Path.{◌≡◌, refl, sym, ap, ◌∙◌}
-use mathlib.Core.Bool.{Bool, false, cond, ◌&&◌}
-use mathlib.Core.List.{List}
-use Prim.Native.Nat.{ℕ, zero, suc, ◌+◌, ◌*◌, ◌/◌, ◌<◌}
-use native.Mathlib.Nat.{mul-le-mul_right}
-use native.Mathlib.Omega.{arith}
-use lib.Dec.{eqb}
-use lib.IntN.{ℤ, pos, ◌+ℤ◌}
-use lib.ListN.{get_or, take}
-use lib.Seq.{get_or-take}
-use lib.Signed.{shr_z}
-use mir.Syntax.{w16}
+use Rattle.std.proofs.Common.{◌≡◌, refl, sym, ap, ◌∙◌, Bool, false, cond, ◌&&◌, List, ℕ, zero, suc, ◌+◌, ◌*◌, ◌/◌, ◌<◌, mul-le-mul_right, arith, eqb, ℤ, pos, ◌+ℤ◌, get_or, take, get_or-take, w16}
+use Rattle.std.specs.Int.Signed.{shr_z}
 use Rattle.wrap32.specs.Cut.{cut, add_w, sub_w}
 use Rattle.wrap32.specs.Arithmetic.{wrapping}
 use Rattle.format.specs.Lifting.{Plane, Lead, low_leads, Shape, SameOn}

@@ -1,10 +1,5 @@
 -- The stream, its length and what refuses it depend on no coefficient beyond its columns. Assumes nothing.
-use mathlib.Core.Path.{◌≡◌, ap}
-use mathlib.Core.List.{List, [], ◌++◌}
-use mathlib.Core.Bool.{cond}
-use Prim.Native.Nat.{ℕ, ◌+◌, ◌*◌, ◌/◌, ◌%◌, ◌<◌}
-use lib.IntN.{nat_abs}
-use lib.Dec.{eqb, ltb}
+use Rattle.std.proofs.Common.{◌≡◌, ap, List, [], ◌++◌, cond, ℕ, ◌+◌, ◌*◌, ◌/◌, ◌%◌, ◌<◌, nat_abs, eqb, ltb}
 use Rattle.lists.proofs.Rows.{rows_same}
 use Rattle.format.specs.Sizes.{Colour, Group, multiplier, components, columns, numbered, indexed}
 use Rattle.format.specs.Refusals.{◌▷◌, on}

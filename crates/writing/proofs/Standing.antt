@@ -1,17 +1,12 @@
 -- Bits that stand in a list of bytes, and a reader that goes past them. Assumes nothing.
-use mathlib.Core.Path.{◌≡◌, refl, sym, ap, ◌∙◌}
-use mathlib.Core.List.{List, [], ◌∷◌, ◌++◌}
-use Prim.Native.Nat.{ℕ, zero, suc, ◌+◌, ◌-◌, ◌/◌, ◌%◌, ◌^◌, ◌≤◌, ◌<◌}
-use mathlib.Core.Logic.{◌⊎◌, inl, inr}
-use native.Mathlib.Nat.{add-zero, pow-suc, eq-or-lt_of_le, le_of_suc-le-suc}
+use Rattle.std.proofs.Common.{◌≡◌, refl, sym, ap, ◌∙◌, List, [], ◌∷◌, ◌++◌, ℕ, zero, suc, ◌+◌, ◌-◌, ◌/◌, ◌%◌, ◌^◌, ◌≤◌, ◌<◌, ◌⊎◌, inl, inr, add-zero, pow-suc, eq-or-lt_of_le, le_of_suc-le-suc, arith, length, get_or, length-append, get_or-append-add}
+use Rattle.std.proofs.lemmas.List.{length-replicate, get_or-replicate}
+use Rattle.std.proofs.Math.ListN.{get_or-append}
 use Rattle.lists.specs.Lists.{rows}
-use native.Mathlib.Omega.{arith}
-use lib.ListN.{length, get_or, length-append, length-replicate, get_or-replicate, get_or-append}
-use lib.Seq.{get_or-append-add}
 use Rattle.format.specs.Bits.{bit_at, bits_at}
 use Rattle.format.specs.Reader.{Reader, skipped}
 use Rattle.format.specs.Writing.{number_bits, zero_bits, unary_bits}
-use Rattle.encoding.proofs.Widths.{length-number}
+use Rattle.codes.proofs.Pushed.{length-number}
 
 -- the bits b stand in s from place p on
 abbrev pub Stand : List ℕ → ℕ → List ℕ → Type 0

@@ -1,10 +1,6 @@
 -- A written stream is read back: its header, its directory and its packets. The list s may go on past the stream. Assumes nothing.
-use mathlib.Core.Path.{◌≡◌, refl, ◌∙◌}
-use mathlib.Core.List.{List, ◌++◌}
-use Prim.Native.Nat.{ℕ, zero, suc, ◌+◌, ◌*◌, ◌/◌, ◌%◌, ◌^◌, ◌≤◌, ◌<◌}
-use native.Mathlib.Omega.{arith}
-use lib.ListN.{length, get_or, length-append}
-use borrow.Author.Tests.{lt-leb, lt-ltb}
+use Rattle.std.proofs.Common.{◌≡◌, refl, ◌∙◌, List, ◌++◌, ℕ, zero, suc, ◌+◌, ◌*◌, ◌/◌, ◌%◌, ◌^◌, ◌≤◌, ◌<◌, arith, length, get_or, length-append, lt-ltb}
+use Rattle.std.proofs.lemmas.Bool.{lt-leb}
 use Rattle.lists.specs.Lists.{rows, part}
 use Rattle.lists.proofs.Rows.{length-rows}
 use Rattle.lists.proofs.Tab.{get_d_part, length_part}
@@ -15,7 +11,7 @@ use Rattle.format.specs.Packets.{sum, entry_count, block_size, length_place, ent
 use Rattle.format.specs.Coefficients.{Coefs}
 use Rattle.format.specs.Writing.{number_bits, zero_bits, entries, records, record_bytes, head_units, packet_bits, packet_units, group_bits, group_units, entry_units, block_bits, header_bits, stream_bits, stream_length}
 use Rattle.format.proofs.BitLaws.{bits-add}
-use Rattle.encoding.proofs.Widths.{length-number}
+use Rattle.codes.proofs.Pushed.{length-number}
 use Rattle.writing.proofs.Standing.{Stand, stand-left, stand-right, stand-rows, next-number, next-zeros, number-stands}
 use Rattle.writing.proofs.PacketBack.{Fields, length-packet, length-of-rows}
 use Rattle.writing.proofs.PacketGood.{sum_mono}

@@ -1,16 +1,6 @@
 -- Job 2's promise: what a call that is not refused writes is a stream that is accepted, of that size, no record of which is stopped, and that
 -- decodes to exactly the planes that were lent. Assumes nothing.
-use mathlib.Core.Path.{◌≡◌, refl, ap, ◌∙◌}
-use mathlib.Core.List.{List, ◌++◌}
-use mathlib.Core.Bool.{Bool, true, false}
-use Prim.Native.Nat.{ℕ, ◌+◌, ◌*◌, ◌^◌, ◌≤◌, ◌<◌}
-use native.Mathlib.Omega.{arith}
-use lib.IntN.{ℤ, pos, nat_abs}
-use lib.ListN.{length, get_or, take, drop, length-append}
-use lib.Seq.{take_at}
-use borrow.Author.Tests.{eq-eqb}
-use mir.Syntax.{w16, w32}
-use mir.Val.{SFits}
+use Rattle.std.proofs.Common.{◌≡◌, refl, ap, ◌∙◌, List, ◌++◌, Bool, true, false, ℕ, ◌+◌, ◌*◌, ◌^◌, ◌≤◌, ◌<◌, arith, ℤ, pos, nat_abs, length, get_or, take, drop, length-append, take_at, eq-eqb, w16, w32, SFits}
 use Rattle.wrap32.specs.Cut.{cut}
 use Rattle.wrap32.specs.Arithmetic.{wrapping}
 use Rattle.format.specs.Sizes.{Colour, green, red, blue, l1, Group, base, detail, final, stripes, guarded, multiplier, components, columns, plane_columns, plane_rows_of, work_length}
@@ -28,7 +18,7 @@ use Rattle.format.proofs.Accepted.{lent-parts}
 use Rattle.format.proofs.StatusLaws.{stopped-is-both}
 use Rattle.format.proofs.TableLaws.{source_in, chosen-in}
 use Rattle.format.proofs.Exact.{Coded, tall-of, SameCoefs, planes-of-coefs}
-use Rattle.encoding.proofs.Finished.{length-packed}
+use Rattle.codes.proofs.Finished.{length-packed}
 use Rattle.writing.proofs.Standing.{Stand}
 use Rattle.writing.proofs.Packed.{stream-bits, packed-stands}
 use Rattle.writing.proofs.StreamBack.{Fits, length-stream, size-width, size-height}

@@ -1,14 +1,5 @@
 -- Planes that begin as those of an accepted call are written as the same stream. Assumes nothing.
-use mathlib.Core.Path.{◌≡◌, ◌∙◌}
-use mathlib.Core.List.{List}
-use Prim.Native.Nat.{ℕ, ◌*◌, ◌≤◌, ◌<◌}
-use native.Mathlib.Omega.{arith}
-use lib.IntN.{ℤ, pos}
-use lib.ListN.{length, get_or, take, drop}
-use lib.Seq.{take_at}
-use borrow.Author.Tests.{eq-eqb, le-ltb}
-use mir.Syntax.{w32}
-use mir.Val.{SFits}
+use Rattle.std.proofs.Common.{◌≡◌, ◌∙◌, List, ℕ, ◌*◌, ◌≤◌, ◌<◌, arith, ℤ, pos, length, get_or, take, drop, take_at, eq-eqb, le-ltb, w32, SFits}
 use Rattle.format.specs.Sizes.{Colour, green, red, blue, Group, stripes, guarded, columns, plane_rows_of, plane_columns, Tall}
 use Rattle.format.specs.Refusals.{short_refusal}
 use Rattle.format.specs.Recovery.{recover}

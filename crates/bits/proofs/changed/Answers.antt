@@ -1,7 +1,5 @@
 -- `changed` meets its contract. Assumes nothing.
-use borrow.Author.Tests.{lt-ltb, le-ltb}
-use native.Mathlib.Omega.{arith}
-use Prim.Native.Nat.{◌+◌, ◌*◌, ◌%◌, ◌^◌, ◌≤◌}
+use Rattle.std.proofs.Common.{lt-ltb, le-ltb, arith, ◌+◌, ◌*◌, ◌%◌, ◌^◌, ◌≤◌}
 use lib.Count.{count_leading_zeros, leading_le}
 use Rattle.bits.specs.View.{change_of}
 use Rattle.bits.proofs.changed.Goals.{Else-word-lt13835058055282163712, Start}

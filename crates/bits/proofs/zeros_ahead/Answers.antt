@@ -1,10 +1,5 @@
 -- `zeros_ahead` meets its contract. The loop's invariant: every bit that was passed is 0, and the word holds the bits after them. Assumes nothing.
-use mathlib.Core.Path.{◌≡◌, refl, sym, ap, ◌∙◌}
-use mathlib.Core.List.{List}
-use mathlib.Core.Logic.{⊎_elim}
-use Prim.Native.Nat.{ℕ, ◌+◌, ◌≤◌, ◌<◌, min}
-use native.Mathlib.Omega.{arith}
-use native.Mathlib.Nat.{add-zero, add_assoc}
+use Rattle.std.proofs.Common.{◌≡◌, refl, sym, ap, ◌∙◌, List, ⊎_elim, ℕ, ◌+◌, ◌≤◌, ◌<◌, min, arith, add-zero, add_assoc}
 use lib.Count.{count_leading_zeros}
 use Rattle.format.specs.Bits.{bits_at, bit_at, zeros_at}
 use Rattle.format.proofs.BitLaws.{bits_none, le-or-lt, zero-prefix, zeros-all, zeros-found, zeros-join, lead-zeros, lead-none}

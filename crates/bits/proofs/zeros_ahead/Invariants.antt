@@ -1,6 +1,5 @@
 -- `zeros_ahead` meets its contract. The loop's invariant: every bit that was passed is 0, and the word holds the bits after them. Assumes nothing.
-use mathlib.Core.Path.{◌≡◌}
-use Prim.Native.Nat.{◌+◌, ◌/◌, ◌^◌, ◌<◌}
+use Rattle.std.proofs.Common.{◌≡◌, ◌+◌, ◌/◌, ◌^◌, ◌<◌}
 use Rattle.format.specs.Bits.{bits_at}
 use Rattle.bits.proofs.zeros_ahead.Given as goal
 

@@ -1,19 +1,26 @@
 -- `coefficients::arw6_packet` meets its contract. Assumes nothing.
-use mathlib.Core.Path.{sym, ◌∙◌}
-use native.Mathlib.Omega.{arith}
+use Rattle.std.proofs.Common.{sym, ◌∙◌, arith}
 use Rattle.coefficients.proofs.TogetherLaws.{together-holds}
 use Rattle.coefficients.proofs.arw6_packet.Goals as goal
 
 pub returns-then-not-fits : goal.returns-then-not-fits
-returns-then-not-fits c = let no = sym c.fits.ensures ∙ c.if-not-fits.true in record { value = simp no; band_after = simp no }
+returns-then-not-fits c =
+    let no = sym c.fits.ensures ∙ c.if-not-fits.true in
+    let e = c.default.ensures in record {
+      value = rw no (λ i. record { together = e.0 i; broken = e.1.0 i; spent = e.1.1.0 i; bits = e.1.1.1 i });
+      band_after = simp no;
+    }
 
 pub new-requires : goal.new-requires
 new-requires c = omega (arith, (together-holds _ _ _ _ _ (sym c.fits.ensures ∙ c.if-not-fits.false)).0)
 
-pub decode_packet-counts-requires : goal.decode_packet-counts-requires
-decode_packet-counts-requires c =
+pub invariant_of-shape : goal.invariant_of-shape
+invariant_of-shape c =
     let told = together-holds _ _ _ _ _ (sym c.fits.ensures ∙ c.if-not-fits.false) in
-    record { in_bounds = told.1; lent = rw c.new.ensures told.2 }
+    record { few = told.1.0; short = told.1.1 }
+
+pub decode_packet-counts-requires : goal.decode_packet-counts-requires
+decode_packet-counts-requires c = rw c.new.ensures (together-holds _ _ _ _ _ (sym c.fits.ensures ∙ c.if-not-fits.false)).2
 
 pub returns : goal.returns
 returns c =

@@ -1,9 +1,9 @@
 -- `put_row` meets its contract: the bits taken, with those that are left, are the row's. Assumes nothing.
 use Rattle.std.proofs.Common.{◌≡◌, ◌++◌, sym, ap, ◌∙◌, List, ℕ, ◌+◌, ◌/◌, ℤ, length, length-append, arith}
 use Rattle.format.specs.Writing.{number_bits, update_bits, group_width, row_bits}
-use Rattle.encoding.specs.Wrote.{line}
+use Rattle.encoding.specs.Numbers.{line}
 use Rattle.encoding.specs.Turn.{rest_bits}
-use Rattle.encoding.proofs.Widths.{length-number}
+use Rattle.codes.proofs.Pushed.{length-number}
 use Rattle.encoding.proofs.Turns.{row_of}
 use Rattle.encoding.proofs.Progress.{Laws, can-less, progress_start, progress-next, progress-end, can-values, can-tail}
 use Rattle.encoding.proofs.put_row.Given.{Over}

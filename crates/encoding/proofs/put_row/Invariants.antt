@@ -1,7 +1,7 @@
 -- `put_row` meets its contract: the bits taken, with those that are left, are the row's. Assumes nothing.
 use Rattle.std.proofs.Common.{◌≡◌, ◌-◌, ◌≤◌}
 use Rattle.format.specs.Writing.{group_width}
-use Rattle.encoding.specs.Wrote.{line}
+use Rattle.encoding.specs.Numbers.{line}
 use Rattle.encoding.proofs.Progress.{Progress}
 use Rattle.encoding.proofs.put_row.Given as goal
 

@@ -1,7 +1,8 @@
 -- `put_values` meets its contract. Assumes nothing.
 use Rattle.std.proofs.Common.{◌≡◌, ◌+◌, ◌*◌, append_assoc, arith}
-use Rattle.encoding.specs.Wrote.{line}
-use Rattle.encoding.proofs.Widths.{length-number, width-most, held-0, held-1, held-2, held-3}
+use Rattle.encoding.specs.Numbers.{line}
+use Rattle.codes.proofs.Pushed.{length-number}
+use Rattle.encoding.proofs.Widths.{width-most, held-0, held-1, held-2, held-3}
 use Rattle.encoding.proofs.put_values.Goals as goal
 
 pub pair-a-requires : goal.pair-a-requires

@@ -1,6 +1,6 @@
 -- `update_code` meets its contract. Assumes nothing.
 use Rattle.std.proofs.Common.{rules, sym, arith}
-use Rattle.encoding.proofs.Pushed.{update-kept, update-grown, update-gone, update-shrunk}
+use Rattle.encoding.proofs.Runs.{update-kept, update-grown, update-gone, update-shrunk}
 use Rattle.encoding.proofs.update_code.Goals as goal
 
 pub returns-then-a-b : goal.returns-then-a-b

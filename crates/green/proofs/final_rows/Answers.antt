@@ -9,23 +9,32 @@ use Rattle.green.proofs.final_rows.Goals as goal
 details-are : (c : After-rows_in-d) → c.rows_in-d.result ≡ details c.args.z c.args.da
 details-are c = c.rows_in-d.ensures ∙ ap (ring_band _ _) c.top_of-t.ensures
 
+pub invariant_of-g : goal.invariant_of-g
+invariant_of-g c =
+    let d = (goal.at.invariant_of-g c).After-rows_in-d in
+    let s = c.args in
+    let z = s.z in
+    let p = c.requires.fits in
+    let f = p.0 in
+    rw (c.rows_of-r.ensures.0, c.rows_in-l.ensures, details-are d) record {
+      within = record {
+        columns = omega (arith, f.0.wide);
+        details = detail-inner z f s.da s.at p.2;
+        averages = average-inner z f s.la s.at p.1;
+        detail-band = ring-whole z f s.da _;
+        average-band = ring-whole z f s.la _;
+      };
+    }
+
 pub rows-requires : goal.rows-requires
 rows-requires c =
-    let d = (goal.at.rows-requires c).After-rows_in-d in
     let s = c.args in
     let z = s.z in
     let p = c.requires.fits in
     let q = c.requires.lent in
     let f = p.0 in
     let wide : z.w ≡ 2 * (z.w / 2) = omega (arith, f.0.whole) in
-    rw (c.rows_of-r.ensures.0, c.rows_in-l.ensures, details-are d) (
-      record {
-        columns = omega (arith, f.0.wide);
-        details = detail-inner z f s.da s.at p.2;
-        averages = average-inner z f s.la s.at p.1;
-        detail-band = ring-whole z f s.da _;
-        average-band = ring-whole z f s.la _;
-      },
+    rw c.rows_of-r.ensures.0 (
       q.0,
       q.1,
       omega (arith, wide, p.3),

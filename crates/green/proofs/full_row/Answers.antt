@@ -1,8 +1,7 @@
 -- `green::full_row` meets its contract: the first 2 x places hold the formula. Assumes nothing.
-use Rattle.std.proofs.Common.{◌≡◌, ◌-◌, w32, sym, ◌∙◌, arith}
+use Rattle.std.proofs.Common.{◌≡◌, ◌-◌, w32, sym, ◌∙◌, arith, to_z, of_z}
 use Rattle.std.proofs.lemmas.Grind.{common_steps}
 use Rattle.std.proofs.lemmas.Int.{to_z-of_z}
-use mir.Val.{to_z, of_z}
 use Rattle.lifting.specs.Lift.{at}
 use Rattle.lists.proofs.Tab.{fill_start, fill-pair}
 use Rattle.green.specs.Green.{even_of, first_of, full_at}

@@ -1,8 +1,7 @@
 -- `green::odd_row` meets its contract: the first x places hold the formula. Assumes nothing.
-use Rattle.std.proofs.Common.{◌≡◌, ◌+◌, ◌-◌, length, w32, arith}
+use Rattle.std.proofs.Common.{◌≡◌, ◌+◌, ◌-◌, length, w32, arith, to_z, of_z}
 use Rattle.std.proofs.lemmas.Grind.{common_steps}
 use Rattle.std.proofs.lemmas.Int.{to_z-of_z}
-use mir.Val.{to_z, of_z}
 use Rattle.lists.proofs.Tab.{fill_start, fill_step, fill_done}
 use Rattle.green.specs.Green.{odd_at, right}
 use Rattle.green.proofs.odd_row.Goals as goal

@@ -10,7 +10,7 @@ returns-clause-value c =
     let x = c.args in
     let p = x.packet.now in
     let n = c.record_length-bytes.ensures.0 in
-    let counts = c.decode_record-counts.ensures.value ∙ ap (counts_from p x.m x.cols x.i) c.payload_at-offset.ensures.0 ∙ counts-payload p x.m x.cols x.i in
+    let counts = c.decode_record-counts.ensures.value ∙ ap (counts_from p x.shape.m x.shape.cols x.i) c.payload_at-offset.ensures.0 ∙ counts-payload p x.shape.m x.shape.cols x.i in
     λ j. record {
       refusal = 0;
       bytes = n j;
@@ -24,5 +24,5 @@ pub returns-clause-band_after : goal.returns-clause-band_after
 returns-clause-band_after c =
     let x = c.args in
     let p = x.packet.now in
-    let numbers = c.decode_record-counts.ensures.band_after ∙ ap (numbers_from p x.m x.cols x.i) c.payload_at-offset.ensures.0 ∙ numbers-payload p x.m x.cols x.i in
-    λ j. numbers j ++ drop (c.kind.ensures.0 j * x.m * x.cols) x.band.now
+    let numbers = c.decode_record-counts.ensures.band_after ∙ ap (numbers_from p x.shape.m x.shape.cols x.i) c.payload_at-offset.ensures.0 ∙ numbers-payload p x.shape.m x.shape.cols x.i in
+    λ j. numbers j ++ drop (c.kind.ensures.0 j * x.shape.m * x.shape.cols) x.band.now

@@ -1,34 +1,23 @@
 -- `lifting::step_row` meets its contract. Assumes nothing.
-use Rattle.std.proofs.Common.{◌≡◌, ℕ, ◌+◌, length, rules, arith, ◌∙◌, w32, SFits, to_z-of_z}
-use Rattle.lists.specs.Lists.{part}
-use Rattle.lists.proofs.Put.{put-start, put_step}
+use Rattle.std.proofs.Common.{rules, arith, ◌∙◌, w32, SFits, to_z-of_z}
+use Rattle.lists.proofs.Tab.{fill_start, fill_step, fill_done}
 use Rattle.lifting.specs.Lift.{at, step_at}
-use Rattle.lifting.proofs.LiftLaws.{clear_read}
 use Rattle.lifting.proofs.step_row.Goals as goal
 
 pub loop-x-init : goal.loop-x-init
-loop-x-init g c = put-start c.args.ring.now c.args.to _
+loop-x-init g c = fill_start _ _
 
 pub loop-x-preserved : goal.loop-x-preserved
 loop-x-preserved g c =
     let s = c.args in
-    let l = s.ring.now in
-    let m = c.loop-x.ring in
-    let u = s.high.now in
-    let n = length u in
-    let x = c.loop-x.x in
-    let p = c.requires in
-    let e = c.loop-x.invariant in
-    let f1 : SFits w32 (at u x) = search rules in
-    let f2 : SFits w32 (at m (s.a + x)) = search rules in
-    let f3 : SFits w32 (at m (s.b + x)) = search rules in
+    let f1 : SFits w32 (at s.row.now c.loop-x.x) = search rules in
+    let f2 : SFits w32 (at s.a.now c.loop-x.x) = search rules in
+    let f3 : SFits w32 (at s.b.now c.loop-x.x) = search rules in
     let f4 : SFits w32 c.step.result = search rules in
     let r = to_z-of_z f4 ∙ (simp to_z-of_z at c.step.ensures) in
-    let h = step_at g.S.Step.step u (part l s.a n) (part l s.b n) in
-    let k = λ (o : ℕ). clear_read l m s.to n x o h e (omega arith) (omega arith) in
-    put_step l m s.to x h _ e (omega arith) (r ∙ (λ i. g.S.Step.step (at u x) (k s.a p.clear.0 i) (k s.b p.clear.1 i)))
+    fill_step s.dst.now _ _ (step_at g.S.Step.step s.row.now s.a.now s.b.now) _ c.loop-x.invariant (omega arith) r
 
 pub returns : goal.returns
 returns g c =
-    let e : c.loop-x.x ≡ length c.args.high.now = omega arith in
-    rw e at c.loop-x.invariant
+    let s = c.args in
+    fill_done s.dst.now _ c.loop-x.x _ (step_at g.S.Step.step s.row.now s.a.now s.b.now) c.loop-x.invariant (omega arith) (omega arith)

@@ -1,5 +1,5 @@
 -- `passes::pair_at` meets its contract. Assumes nothing.
-use mathlib.Core.Path.{sym}
+use Rattle.std.proofs.Common.{sym}
 use Rattle.passes.proofs.PlaceLaws.{pair_is}
 use Rattle.passes.proofs.pair_at.Goals as goal
 

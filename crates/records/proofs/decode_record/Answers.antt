@@ -1,7 +1,5 @@
 -- `decode_record` meets its contract. Assumes nothing.
-use mathlib.Core.Path.{◌≡◌, sym, ap, ◌∙◌}
-use Prim.Native.Nat.{ℕ, ◌*◌, ◌≤◌}
-use native.Mathlib.Omega.{arith}
+use Rattle.std.proofs.Common.{◌≡◌, sym, ap, ◌∙◌, ℕ, ◌*◌, ◌≤◌, arith}
 use Rattle.format.specs.Reader.{Reader, start_of}
 use Rattle.format.specs.Packets.{record_length}
 use Rattle.format.specs.Coefficients.{zeros}
@@ -16,14 +14,14 @@ returns-then-bytes-eq0 c =
     let s = t in
     let a = s.args in
     let p = a.packet.now in
-    let empty = record-none p a.m a.cols a.i a.offset (sym t.record_length-bytes.ensures.0 ∙ t.if-bytes-eq0.true) in
+    let empty = record-none p a.shape.m a.shape.cols a.i a.offset (sym t.record_length-bytes.ensures.0 ∙ t.if-bytes-eq0.true) in
     record {
       value = c.none.ensures ∙ empty.0;
-      band_after = b.fill.ensures.after (λ y e. e) ∙ ap zeros s.requires.shape.2 ∙ empty.1;
+      band_after = b.fill.ensures.after (λ y e. e) ∙ ap zeros s.requires.size ∙ empty.1;
     }
 
-count-le : (c : After-kind) → c.kind.result * c.args.m ≤ 3 * c.args.m
-count-le c = rows-le c.kind.result c.args.m (omega (arith, c.kind.ensures.1))
+count-le : (c : After-kind) → c.kind.result * c.args.shape.m ≤ 3 * c.args.shape.m
+count-le c = rows-le c.kind.result c.args.shape.m (omega (arith, c.kind.ensures.1))
 
 pub new-start-requires : goal.new-start-requires
 new-start-requires c =
@@ -35,13 +33,8 @@ decode_rows-requires c =
     let s = f in
     let a = s.args in record {
       ready = (rw c.bytes.ensures.0 at c.new-start.ensures.ready, ap (λ (r : Reader). r.status) c.new-start.ensures.value);
-      shape = (
-        omega (arith, s.requires.in_bounds.0),
-        omega (arith, s.requires.shape.0),
-        omega (arith, s.requires.shape.1),
-        count-le f,
-        ap (λ (k : ℕ). k * a.m * a.cols) f.kind.ensures.0 ∙ sym s.requires.shape.2,
-      );
+      in_bounds = (omega (arith, s.requires.in_bounds.0), count-le f);
+      size = ap (λ (k : ℕ). k * a.shape.m * a.shape.cols) f.kind.ensures.0 ∙ sym s.requires.size;
     }
 
 -- what the rows gave is the record's
@@ -55,9 +48,9 @@ returns c =
     let a = s.args in
     let p = a.packet.now in
     let some : record_length p a.i ≡ 0 → ⊥ = λ e. f.if-bytes-eq0.false (l.record_length-bytes.ensures.0 ∙ e) in
-    let count = ap (λ (k : ℕ). k * a.m) f.kind.ensures.0 in
+    let count = ap (λ (k : ℕ). k * a.shape.m) f.kind.ensures.0 in
     let start = n.new-start.ensures.value ∙ ap (start_of a.offset) l.record_length-bytes.ensures.0 in
-    let coded = record-coded p a.m a.cols a.i a.offset _ _ some count start in
+    let coded = record-coded p a.shape.m a.shape.cols a.i a.offset _ _ some count start in
     record {
       value = d.decode_rows.ensures.value ∙ coded.0;
       band_after = d.decode_rows.ensures.band_after ∙ coded.1;
@@ -67,4 +60,4 @@ pub record_length-bytes-requires : goal.record_length-bytes-requires
 record_length-bytes-requires c = omega (arith, c.requires.in_bounds.0)
 
 pub overflow_mul-count : goal.overflow_mul-count
-overflow_mul-count c = omega (arith, count-le c)
+overflow_mul-count c = omega (arith, count-le (goal.at.overflow_mul-count c).After-kind, c.args.shape.few)

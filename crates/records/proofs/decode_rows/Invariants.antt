@@ -1,9 +1,5 @@
 -- `decode_rows` meets its contract. Assumes nothing.
-use mathlib.Core.Path.{◌≡◌}
-use mathlib.Core.List.{List}
-use Prim.Native.Nat.{ℕ, ◌-◌, ◌*◌}
-use lib.IntN.{ℤ}
-use lib.ListN.{length}
+use Rattle.std.proofs.Common.{◌≡◌, List, ℕ, ◌-◌, ◌*◌, ℤ, length}
 use Rattle.format.specs.Packets.{selector}
 use Rattle.format.specs.Coefficients.{rows_of}
 use Rattle.format.specs.Counts.{first_status}
@@ -19,7 +15,7 @@ all p i m cols count r = (rows_of p (selector p i) m cols count 0 (as_reader r))
 
 abbrev pub invariant-loop-k : goal.invariant-loop-k
 invariant-loop-k l =
-    Walk l.packet (selector l.packet l.i) l.m l.cols (as_reader l.initial.r) (all l.packet l.i l.m l.cols l.count l.initial.r) l.band (l.k * l.cols) (l.count - l.k) l.k (as_reader l.r)
+    Walk l.packet (selector l.packet l.i) l.shape.m l.shape.cols (as_reader l.initial.r) (all l.packet l.i l.shape.m l.shape.cols l.count l.initial.r) l.band (l.k * l.shape.cols) (l.count - l.k) l.k (as_reader l.r)
     × (length l.band ≡ length l.initial.band) × Ready l.packet l.r
-    × ((as_reader l.r).status ≡ 0) × (first_status l.packet (selector l.packet l.i) l.m l.cols l.k (as_reader l.initial.r) ≡ 0)
-    × (l.bits ≡ rows_used l.packet (selector l.packet l.i) l.m l.cols l.k (as_reader l.initial.r))
+    × ((as_reader l.r).status ≡ 0) × (first_status l.packet (selector l.packet l.i) l.shape.m l.shape.cols l.k (as_reader l.initial.r) ≡ 0)
+    × (l.bits ≡ rows_used l.packet (selector l.packet l.i) l.shape.m l.shape.cols l.k (as_reader l.initial.r))

@@ -1,7 +1,5 @@
 -- `fill_record` meets its contract. Assumes nothing.
-use borrow.Author.Tests.{lt-ltb, le-ltb}
-use mathlib.Core.Path.{ap, ◌∙◌}
-use native.Mathlib.Omega.{arith}
+use Rattle.std.proofs.Common.{lt-ltb, le-ltb, ap, ◌∙◌, arith}
 use Rattle.format.specs.Packets.{blocks}
 use Rattle.format.specs.Coefficients.{zeros}
 use Rattle.format.proofs.BitLaws.{bits-lt}
@@ -13,7 +11,7 @@ pub decode_record-requires : goal.decode_record-requires
 decode_record-requires c =
     record {
       in_bounds = (omega (arith, c.if-i-blocks.true, c.blocks-2.ensures.0, bits-lt c.args.packet.now 56 16), c.requires.in_bounds);
-      shape = c.requires.shape;
+      size = c.requires.size;
     }
 
 pub returns-then-i-blocks : goal.returns-then-i-blocks
@@ -35,5 +33,5 @@ returns c =
     let missing = le-ltb s.args.i (blocks s.args.packet.now) (omega (arith, t.if-i-blocks.false, t.blocks-2.ensures.0)) in
     record {
       value = simp missing c.none.ensures;
-      band_after = simp missing (b.fill.ensures.after (λ y e. e) ∙ ap zeros s.requires.shape.2);
+      band_after = simp missing (b.fill.ensures.after (λ y e. e) ∙ ap zeros s.requires.size);
     }

@@ -1,5 +1,5 @@
 -- `records::finish_record` meets its contract. Assumes nothing.
-use mathlib.Core.Path.{refl}
+use Rattle.std.proofs.Common.{refl}
 use Rattle.records.specs.Finished.{finished_by}
 use Rattle.records.proofs.finish_record.Goals as goal
 

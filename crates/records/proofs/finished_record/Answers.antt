@@ -1,7 +1,5 @@
 -- `records::finished_record` meets its contract. Assumes nothing.
-use mathlib.Core.Path.{ap, ◌∙◌}
-use native.Mathlib.Nat.{mul-le-mul_right}
-use native.Mathlib.Omega.{arith}
+use Rattle.std.proofs.Common.{ap, ◌∙◌, mul-le-mul_right, arith}
 use Rattle.records.specs.Finished.{finished_by}
 use Rattle.records.proofs.finished_record.Goals.{After-fill_record-counts, After-finish_record}
 use Rattle.records.proofs.finished_record.Goals as goal

@@ -1,12 +1,5 @@
 -- `records::next_record` meets its contract. Assumes nothing.
-use mathlib.Core.Path.{◌≡◌, sym, ap, ◌∙◌}
-use Prim.Native.Nat.{ℕ, ◌+◌, ◌-◌, ◌*◌, ◌%◌, ◌^◌, ◌≤◌, ◌<◌}
-use native.Mathlib.Nat.{mul-le-mul_right, mod-lt}
-use native.Mathlib.Omega.{arith}
-use lib.ListN.{length, take, drop, length-take, length-drop}
-use lib.IntN.{ℤ}
-use mathlib.Core.List.{List, ◌++◌}
-use borrow.Author.Tests.{lt-ltb}
+use Rattle.std.proofs.Common.{◌≡◌, sym, ap, ◌∙◌, ℕ, ◌+◌, ◌-◌, ◌*◌, ◌%◌, ◌^◌, ◌≤◌, ◌<◌, mul-le-mul_right, mod-lt, arith, length, take, drop, length-take, length-drop, ℤ, List, ◌++◌, lt-ltb}
 use Rattle.lists.specs.Lists.{put_at}
 use Rattle.lists.proofs.Tab.{part-back, length_part}
 use Rattle.format.specs.Packets.{kind, blocks}

@@ -1,7 +1,5 @@
 -- `records::next_records` meets its contract: k records are laid, each into its slot. Assumes nothing.
-use mathlib.Core.Path.{◌≡◌, refl, ap, ◌∙◌}
-use Prim.Native.Nat.{◌+◌, ◌^◌, ◌<◌}
-use native.Mathlib.Omega.{arith}
+use Rattle.std.proofs.Common.{◌≡◌, refl, ap, ◌∙◌, ◌+◌, ◌^◌, ◌<◌, arith}
 use Rattle.lists.specs.Lists.{laid}
 use Rattle.lists.proofs.Laid.{laid-start, laid-step}
 use Rattle.records.specs.Counted.{Few}

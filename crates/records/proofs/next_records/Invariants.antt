@@ -1,9 +1,5 @@
 -- `records::next_records` meets its contract: k records are laid, each into its slot. Assumes nothing.
-use mathlib.Core.Path.{◌≡◌}
-use mathlib.Core.List.{List}
-use Prim.Native.Nat.{ℕ, ◌+◌, ◌*◌, ◌%◌}
-use lib.IntN.{ℤ}
-use lib.ListN.{length}
+use Rattle.std.proofs.Common.{◌≡◌, List, ℕ, ◌+◌, ◌*◌, ◌%◌, ℤ, length}
 use Rattle.lists.specs.Lists.{laid}
 use Rattle.format.specs.Packets.{kind}
 use Rattle.records.specs.Record.{walked_by, values_by}

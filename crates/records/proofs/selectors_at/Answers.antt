@@ -1,8 +1,6 @@
 -- `selectors_at` meets its contract. Assumes nothing.
-use mathlib.Core.Path.{◌∙◌}
-use Prim.Native.Nat.{◌+◌}
-use native.Mathlib.Omega.{arith}
-use Rattle.records.proofs.Walk.{selector-from, selectors-are}
+use Rattle.std.proofs.Common.{◌∙◌, ◌+◌, arith}
+use Rattle.records.proofs.Walk.{selector-from}
 use Rattle.records.proofs.selectors_at.Goals as goal
 
 pub returns : goal.returns
@@ -13,10 +11,8 @@ returns c =
     let g = c.args in
     let p = g.packet.now in
     let at = c.record_bit-at.result in
-    let place = c.record_bit-at.ensures.0 in record {
-      value = selectors-are p g.i a.result b.result d.result
-          (a.ensures.0 ∙ selector-from p g.i 0 (at + 16) (omega (arith, place)))
-          (b.ensures.0 ∙ selector-from p g.i 1 (at + 20) (omega (arith, place)))
-          (d.ensures.0 ∙ selector-from p g.i 2 (at + 24) (omega (arith, place)));
-      small = record { a = a.ensures.1; b = b.ensures.1; c = d.ensures.1 };
-    }
+    let place = c.record_bit-at.ensures.0 in (
+      a.ensures.0 ∙ selector-from p g.i 0 (at + 16) (omega (arith, place)),
+      b.ensures.0 ∙ selector-from p g.i 1 (at + 20) (omega (arith, place)),
+      d.ensures.0 ∙ selector-from p g.i 2 (at + 24) (omega (arith, place)),
+    )

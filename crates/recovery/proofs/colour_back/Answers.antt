@@ -10,31 +10,31 @@ use Rattle.recovery.proofs.colour_back.Goals.{After-copy_from_slice, After-rows_
 use Rattle.recovery.proofs.colour_back.Goals as goal
 
 -- the numbers of the plane
-many : (c : After-rows_of) → let z = c.args.z in c.rows_of.result * (z.w / 2) ≡ plane_rows z.guarded z.n * (z.w / 2)
-many c = ap (λ (n : ℕ). n * (c.args.z.w / 2)) c.rows_of.ensures.0
+many : (c : After-rows_of) → let z = c.args.b.z in c.rows_of.result * (z.w / 2) ≡ plane_rows z.guarded z.n * (z.w / 2)
+many c = ap (λ (n : ℕ). n * (c.args.b.z.w / 2)) c.rows_of.ensures.0
 
 -- there is room for them
-room : (c : After-rows_of) → c.args.at + c.rows_of.result * (c.args.z.w / 2) ≤ length c.args.work.now
-room c = omega (arith, many c, plane-in c.args.z c.args.at _ c.requires.0, c.requires.0.front, c.requires.0.room)
+room : (c : After-rows_of) → c.args.b.at + c.rows_of.result * (c.args.b.z.w / 2) ≤ length c.args.work.now
+room c = omega (arith, many c, plane-in c.args.b.z c.args.b.at _ c.requires.0, c.requires.0.front, c.requires.0.room)
 
 pub slice_bounds-copy_from_slice-end : goal.slice_bounds-copy_from_slice-end
 slice_bounds-copy_from_slice-end c = room (goal.at.slice_bounds-copy_from_slice-end c).After-rows_of
 
 -- they stand in the block
-made : (c : After-copy_from_slice) → let s = c.args in let z = s.z in let n = c.rows_of.result * (z.w / 2) in
-    put_mid s.at (s.at + n - s.at) s.work.now c.copy_from_slice.new.self ≡ put_at s.work.now s.at (take (plane_rows z.guarded z.n * (z.w / 2)) s.plane.now)
+made : (c : After-copy_from_slice) → let s = c.args in let z = s.b.z in let n = c.rows_of.result * (z.w / 2) in
+    put_mid s.b.at (s.b.at + n - s.b.at) s.work.now c.copy_from_slice.new.self ≡ put_at s.work.now s.b.at (take (plane_rows z.guarded z.n * (z.w / 2)) s.plane.now)
 made c =
     let s = c.args in
-    let z = s.z in
+    let z = s.b.z in
     let m = many (goal.at.After-copy_from_slice c).After-rows_of in
     let t : c.copy_from_slice.new.self ≡ take (plane_rows z.guarded z.n * (z.w / 2)) s.plane.now = c.copy_from_slice.ensures.after ∙ ap (λ (n : ℕ). take n s.plane.now) m in
-    part-back s.work.now _ _ s.at _ t (simp length-take (omega (arith, m, c.requires.1)))
+    part-back s.work.now _ _ s.b.at _ t (simp length-take (omega (arith, m, c.requires.1)))
 
 pub returns : goal.returns
 returns c =
     let d = (goal.at.returns c).After-copy_from_slice in
-    let z = c.args.z in
-    let p = c.args.at in
+    let z = c.args.b.z in
+    let p = c.args.b.at in
     let k = c.requires.0 in
     let plane = c.args.plane.now in
     let i = c.index_back.ensures in

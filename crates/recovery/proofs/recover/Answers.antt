@@ -12,12 +12,12 @@ use Rattle.recovery.proofs.recover.Goals as goal
 second : (c : After-colour_back-b) → let z = c.args.z in
     ColourBack z (64 * unit_of z) c.args.red.now c.green_back-a.new.work c.colour_back-b.new.work (code_of c.colour_back-b.result)
 second c =
-    subst (λ (n : ℕ). ColourBack c.args.z (64 * n) c.args.red.now c.green_back-a.new.work c.colour_back-b.new.work (code_of c.colour_back-b.result)) c.unit-u.ensures c.colour_back-b.ensures
+    subst (λ (n : ℕ). ColourBack c.args.z (64 * n) c.args.red.now c.green_back-a.new.work c.colour_back-b.new.work (code_of c.colour_back-b.result)) c.unit-n.ensures c.colour_back-b.ensures
 
 third : (c : After-colour_back-c) → let z = c.args.z in
     ColourBack z (2 * (64 * unit_of z)) c.args.blue.now c.colour_back-b.new.work c.colour_back-c.new.work (code_of c.colour_back-c.result)
 third c =
-    let e : 2 * 64 * c.unit-u.result ≡ 2 * (64 * unit_of c.args.z) = omega (arith, c.unit-u.ensures) in
+    let e : 2 * (64 * c.unit-n.result) ≡ 2 * (64 * unit_of c.args.z) = omega (arith, c.unit-n.ensures) in
     subst (λ (n : ℕ). ColourBack c.args.z n c.args.blue.now c.colour_back-b.new.work c.colour_back-c.new.work (code_of c.colour_back-c.result)) e c.colour_back-c.ensures
 
 pub returns : goal.returns

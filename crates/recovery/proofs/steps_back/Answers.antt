@@ -17,25 +17,25 @@ use Rattle.recovery.proofs.steps_back.Goals as goal
 
 -- group 0's packet is cleared
 made : (c : After-fill) → let a = c.args in
-    put_mid a.at (a.at + c.unit.result - a.at) a.work.now c.fill.new.self ≡ put_at a.work.now (group_at a.z a.at base) (zeros (packet_size a.z base))
+    put_mid a.b.at (a.b.at + c.unit.result - a.b.at) a.work.now c.fill.new.self ≡ put_at a.work.now (group_at a.b.z a.b.at base) (zeros (packet_size a.b.z base))
 made c =
     let a = c.args in
     let k = c.requires.0 in
-    let n : a.at + c.unit.result - a.at ≡ packet_size a.z base = omega (arith, c.unit.ensures, packet-takes a.z base k.fits.0.whole k.all) in
-    let p : a.at ≡ group_at a.z a.at base = omega arith in
-    put-zeros a.work.now c.fill.new.self a.at (a.at + c.unit.result - a.at) (omega (arith, c.unit.ensures, k.front, k.room)) (c.fill.ensures.after (λ y e. e))
+    let n : a.b.at + c.unit.result - a.b.at ≡ packet_size a.b.z base = omega (arith, c.unit.ensures, packet-takes a.b.z base k.fits.0.whole k.all) in
+    let p : a.b.at ≡ group_at a.b.z a.b.at base = omega arith in
+    put-zeros a.work.now c.fill.new.self a.b.at (a.b.at + c.unit.result - a.b.at) (omega (arith, c.unit.ensures, k.front, k.room)) (c.fill.ensures.after (λ y e. e))
     ∙ (λ i. put_at a.work.now (p i) (zeros (n i)))
 
 pub base_back-requires : goal.base_back-requires
 base_back-requires c =
     let a = c.args in
     let k = c.requires.0 in
-    let n = sym (base-long a.z a.at _ k a.work.now _ refl (made (goal.at.base_back-requires c).After-fill)) in
+    let n = sym (base-long a.b.z a.b.at _ k a.work.now _ refl (made (goal.at.base_back-requires c).After-fill)) in
     let e = sym c.requires.1 in
-    transport (λ i. Held a.z a.at (n i) × BaseBeside a.z a.at (e i) (ll_step a.z l1) (n i)) (held a.z a.at _ k, base-clean a.z a.at _ k _ k.room)
+    transport (λ i. Held a.b.z a.b.at (n i) × BaseBeside a.b.z a.b.at (e i) (ll_step a.b.z l1) (n i)) (held a.b.z a.b.at _ k, base-clean a.b.z a.b.at _ k _ k.room)
 
 pub returns : goal.returns
 returns c =
     let a = c.args in
-    steps_back a.z a.at _ c.requires.0 a.work.now _ refl (made (goal.at.returns c).After-fill) _ _
-    (subst (λ (n : ℕ). BaseReturned a.z a.at n (ll_step a.z l1) (put_mid a.at (a.at + c.unit.result - a.at) a.work.now c.fill.new.self) c.base_back.new.work (code_of c.base_back.result)) c.requires.1 c.base_back.ensures)
+    steps_back a.b.z a.b.at _ c.requires.0 a.work.now _ refl (made (goal.at.returns c).After-fill) _ _
+    (subst (λ (n : ℕ). BaseReturned a.b.z a.b.at n (ll_step a.b.z l1) (put_mid a.b.at (a.b.at + c.unit.result - a.b.at) a.work.now c.fill.new.self) c.base_back.new.work (code_of c.base_back.result)) c.requires.1 c.base_back.ensures)

@@ -1,9 +1,7 @@
 -- `returning::edge_back` meets its contract. Assumes nothing.
-use Rattle.std.proofs.Common.{◌≡◌, sym, ap, ◌∙◌, w32, pos, to_z, of_z}
+use Rattle.std.proofs.Common.{◌≡◌, sym, ap, ◌∙◌, w32, pos, to_z, of_z, SFits, to_z-of_z}
 use borrow.Author.Rules.{sfits_of}
-use mir.Val.{SFits}
 use lib.Signed.{quot_z}
-use mir.Facts.{to_z-of_z}
 use Rattle.wrap32.specs.Arithmetic.{wrapping}
 use Rattle.wrap32.specs.Edge.{edge_detail}
 use Rattle.wrap32.proofs.Laws.{half-fits}

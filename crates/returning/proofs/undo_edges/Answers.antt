@@ -1,8 +1,7 @@
 -- `returning::undo_edges` meets its contract: the numbers before z have E undone, and are checked. Assumes nothing.
-use Rattle.std.proofs.Common.{rules, ◌≡◌, ◌∙◌, sym, ap, ℕ, ℤ, pos, w32, Option}
+use Rattle.std.proofs.Common.{rules, ◌≡◌, ◌∙◌, sym, ap, ℕ, ℤ, pos, w32, Option, SFits}
 use Rattle.std.specs.Option.{unwrap_or}
 use borrow.Author.Rules.{sfits_of}
-use mir.Val.{SFits}
 use Rattle.wrap32.specs.Edge.{edge_back}
 use Rattle.wrap32.proofs.Laws.{read_back}
 use Rattle.lists.proofs.Tab.{fill_start, fill_step}

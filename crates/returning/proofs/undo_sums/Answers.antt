@@ -1,7 +1,6 @@
 -- `returning::undo_sums` meets its contract: the steps up to z stand there, and are checked. Assumes nothing.
-use Rattle.std.proofs.Common.{rules, ◌≡◌, ◌∙◌, refl, sym, ap, ℕ, ℤ, w16, w32, add-one, to_z, of_z}
+use Rattle.std.proofs.Common.{rules, ◌≡◌, ◌∙◌, refl, sym, ap, ℕ, ℤ, w16, w32, add-one, to_z, of_z, SFits}
 use borrow.Author.Rules.{sfits_of}
-use mir.Val.{SFits}
 use Rattle.wrap32.specs.Cut.{cut, sub_w}
 use Rattle.wrap32.proofs.Laws.{read_back}
 use Rattle.lists.proofs.Tab.{fill_start, fill_step}

@@ -1,13 +1,6 @@
 -- `above` meets its contract. Assumes nothing.
-use borrow.Author.Rules.{rules}
-use borrow.Author.Tests.{lt-ltb, lt-leb}
-use mathlib.Core.Path.{◌≡◌, refl, ap, ◌∙◌}
-use Prim.Native.Nat.{zero, suc}
-use native.Mathlib.Omega.{arith}
-use lib.IntN.{ℤ, pos, negsuc, nat_abs}
-use mir.Syntax.{w64}
-use mir.Val.{SFits}
-use mir.Facts.{to_z-of_z}
+use Rattle.std.proofs.Common.{rules, lt-ltb, ◌≡◌, refl, ap, ◌∙◌, zero, suc, arith, ℤ, pos, negsuc, nat_abs, w64, SFits, to_z-of_z}
+use borrow.Author.Tests.{lt-leb}
 use Rattle.std.specs.Int.{int_max}
 use Rattle.rows.specs.Word.{level_of}
 use Rattle.rows.proofs.above.Goals as goal

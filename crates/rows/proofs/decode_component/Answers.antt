@@ -1,6 +1,5 @@
 -- `decode_component` meets its contract: what the row took is what is no longer left. Assumes nothing.
-use mathlib.Core.Path.{ap, ◌∙◌}
-use Prim.Native.Nat.{◌-◌}
+use Rattle.std.proofs.Common.{ap, ◌∙◌, ◌-◌}
 use Rattle.format.specs.Reader.{Reader}
 use Rattle.format.specs.Used.{row_used}
 use Rattle.rows.proofs.decode_component.Goals as goal

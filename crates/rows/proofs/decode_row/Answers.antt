@@ -1,7 +1,5 @@
 -- `decode_row` meets its contract. Assumes nothing.
-use native.Mathlib.Omega.{arith}
-use lib.Dec.{lit<}
-use lib.ListN.{length}
+use Rattle.std.proofs.Common.{arith, lit<, length}
 use Rattle.bits.specs.View.{as_reader}
 use Rattle.rows.specs.Course.{state_of}
 use Rattle.rows.proofs.Filled.{clean_all}
@@ -14,7 +12,7 @@ loop-out-init c =
     let a = c.args in
     let k = c.fill in
     let first = c.width_update-first in
-    decoding-first a.packet.now a.selector (length a.dst.now) k.new.self first.result.reader first.result.value k.auto.self first.ensures.still_ready
+    decoding-first a.packet.now a.selector.number (length a.dst.now) k.new.self first.result.reader first.result.value k.auto.self first.ensures.still_ready
     (clean_all k.new.self (length a.dst.now) (k.ensures.after (λ y e. e)))
 
 pub returns-then-halts : goal.returns-then-halts
@@ -26,13 +24,12 @@ returns-then-halts c =
 pub quick-far-requires : goal.quick-far-requires
 quick-far-requires c =
     let l = c.loop-out.invariant in
-    let s = c.requires.selector_bound in
+    let size = c.requires.size in
     let goes = c.halts.ensures.1 c.if-halts.false in
     let more = c.loop-out-test.true in
     record {
       ready = l.ready;
-      going = (goes.0, omega (arith, l.same, s), omega (arith, l.same, more), goes.1, s.0);
-      clean = l.clean;
+      underway = record { go = goes.0; size = omega (arith, l.same, size); more = omega (arith, l.same, more); short = goes.1; clean = l.clean };
     }
 
 -- the row after the quick part of a turn
@@ -40,7 +37,7 @@ quicked : (c : After-quick-far)
     → let a = c.args in
     let w = c.width_update-first.result in
     let q = c.quick-far in
-    Decoding a.packet.now a.selector (length a.dst.now) (state_of w.value w.reader) c.fill.new.self q.new.dst
+    Decoding a.packet.now a.selector.number (length a.dst.now) (state_of w.value w.reader) c.fill.new.self q.new.dst
     q.result.reader q.result.width q.result.value
 quicked c =
     let q = c.quick-far in
@@ -55,13 +52,12 @@ returns-then-halts-2 c =
 pub plain-one-requires : goal.plain-one-requires
 plain-one-requires c =
     let l = quicked (goal.at.plain-one-requires c).After-quick-far in
-    let s = c.requires.selector_bound in
+    let size = c.requires.size in
     let goes = c.halts-then-out-n.ensures.1 c.if-halts-2.false in
     let more = c.if-out-n.true in
     record {
       ready = l.ready;
-      going = (goes.0, omega (arith, l.same, s), omega (arith, l.same, more), s.0, goes.1);
-      clean = l.clean;
+      underway = record { go = goes.0; size = omega (arith, l.same, size); more = omega (arith, l.same, more); short = goes.1; clean = l.clean };
     }
 
 pub loop-out-preserved-then-out-n : goal.loop-out-preserved-then-out-n

@@ -1,10 +1,5 @@
 -- `fast` meets its contract. Assumes nothing.
-use borrow.Author.Rules.{rules}
-use native.Mathlib.Omega.{arith}
-use mathlib.Core.Path.{refl, sym}
-use Prim.Native.Nat.{◌+◌, ◌*◌}
-use mir.Syntax.{w64}
-use mir.Val.{to_z}
+use Rattle.std.proofs.Common.{rules, arith, refl, sym, ◌+◌, ◌*◌, w64, to_z}
 use Rattle.rows.specs.Word.{level_of}
 use Rattle.rows.proofs.LevelLaws.{level-none, level-some, level-wide, level-kept}
 use Rattle.rows.proofs.Steps as steps
@@ -25,9 +20,9 @@ at g c =
 pub loop-h-init : goal.loop-h-init
 loop-h-init g c =
     let s = c.requires in
-    let n = s.going in
-    steps.state-first (called g c) (record { ready = s.ready; go = n.0; below = g.met.S.Scale.below c.args.scale; wide = omega (arith, n) }) (omega (arith, n)) (omega (arith, n))
-    s.clean _ _ _ _ c.saturating_sub-last.ensures c.edge-end.ensures c.saturating_sub-room.ensures (omega arith, s.ready.bits)
+    let n = s.underway in
+    steps.state-first (called g c) (record { ready = s.ready; go = n.go; below = g.met.S.Scale.below c.args.scale; wide = omega (arith, n) }) (omega (arith, n)) (omega (arith, n))
+    n.clean _ _ _ _ c.saturating_sub-last.ensures c.edge-end.ensures c.saturating_sub-room.ensures (omega arith, s.ready.bits)
 
 inside : (g : Over) (c : In-loop-h g) → steps.Inside (at g (goal.at.In-loop-h g c).At-loop-h)
 inside g c = steps.state-inside c.loop-h.invariant (c.near.ensures.0 c.loop-h-test.true)

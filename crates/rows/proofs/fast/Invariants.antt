@@ -1,6 +1,5 @@
 -- `fast` meets its contract. Assumes nothing.
-use Prim.Native.Nat.{◌-◌}
-use lib.ListN.{length}
+use Rattle.std.proofs.Common.{◌-◌, length}
 use Rattle.rows.proofs.Steps as steps
 use Rattle.rows.proofs.fast.Given as goal
 

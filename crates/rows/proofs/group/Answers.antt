@@ -1,15 +1,13 @@
 -- `group` meets its contract. Assumes nothing.
-use native.Mathlib.Nat.{lt_of_lt_of_le}
-use lib.Pow.{pow_mono}
+use Rattle.std.proofs.Common.{lt_of_lt_of_le, pow_mono}
 use Rattle.format.specs.Coefficients.{group_of}
 use Rattle.rows.proofs.group.Goals as goal
 
 pub signs-z-requires : goal.signs-z-requires
 signs-z-requires c =
     let q = c.read4-q.ensures.ready_below_four in
-    let short = pow_mono {i = c.args.width} {j = 19} c.requires.width_bound.0 in record {
+    let short = pow_mono {i = c.args.width} {j = 19} c.requires.width_bound in record {
       ready = c.width_next-n.ensures.still_ready;
-      selector_bound = c.requires.width_bound.1;
       short = (lt_of_lt_of_le q.a short, lt_of_lt_of_le q.b short, lt_of_lt_of_le q.c short, lt_of_lt_of_le q.d short);
     }
 

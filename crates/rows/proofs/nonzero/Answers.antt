@@ -1,5 +1,5 @@
 -- `nonzero` meets its contract. Assumes nothing.
-use native.Mathlib.Omega.{arith}
+use Rattle.std.proofs.Common.{arith}
 use Rattle.std.proofs.lemmas.Grind.{common_steps}
 use Rattle.rows.specs.Word.{nonzero_of}
 use Rattle.rows.proofs.nonzero.Goals as goal

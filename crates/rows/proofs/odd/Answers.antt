@@ -1,15 +1,6 @@
 -- `odd` meets its contract. Assumes nothing.
-use borrow.Author.Rules.{rules}
-use mathlib.Core.Path.{◌≡◌, ap, ◌∙◌}
-use mathlib.Core.Bool.{Bool, not}
-use mathlib.Core.Logic.{⊎_elim}
-use Prim.Native.Nat.{ℕ, ◌%◌, ◌≤◌, ◌<◌}
-use native.Mathlib.Omega.{arith}
-use lib.Dec.{eqb}
-use lib.IntN.{pos, nat_abs}
-use mir.Syntax.{w32}
-use mir.Val.{SFits, bool_byte}
-use mir.Facts.{to_z-of_z}
+use Rattle.std.proofs.Common.{rules, ◌≡◌, ap, ◌∙◌, Bool, not, ⊎_elim, ℕ, ◌%◌, ◌≤◌, ◌<◌, arith, eqb, pos, nat_abs, w32, SFits, to_z-of_z}
+use mir.Val.{bool_byte}
 use Rattle.format.proofs.BitLaws.{le-or-lt}
 use Rattle.wrap32.proofs.Laws.{half-fits, odd-bit}
 use Rattle.rows.proofs.odd.Goals as goal

@@ -1,5 +1,5 @@
 -- `plain` meets its contract. Assumes nothing.
-use native.Mathlib.Omega.{arith}
+use Rattle.std.proofs.Common.{arith}
 use Rattle.bits.specs.View.{as_reader}
 use Rattle.rows.specs.Course.{state_of}
 use Rattle.rows.specs.View.{as_run}
@@ -10,13 +10,13 @@ pub returns-then-width-eq0 : goal.returns-then-width-eq0
 returns-then-width-eq0 c =
     let a = c.args in
     let z = c.zero_groups-run in record {
-      onward = onward-run a.packet.now a.selector a.dst.now a.out (state_of a.width a.reader) c.requires.clean (as_run z.result) z.ensures.value c.requires.going.0 c.if-width-eq0.true
-          (omega (arith, c.requires.going)) z.ensures.some_groups.0 z.ensures.some_groups.1;
-      done = (omega (arith, z.ensures.some_groups), omega (arith, z.ensures.some_groups, c.requires.going), z.ensures.still_ready);
+      onward = onward-run a.packet.now a.selector.number a.dst.now a.out (state_of a.width a.reader) c.requires.underway.clean (as_run z.result) z.ensures.value c.requires.underway.go c.if-width-eq0.true
+          (omega (arith, c.requires.underway)) z.ensures.some_groups.0 z.ensures.some_groups.1;
+      done = (omega (arith, z.ensures.some_groups), omega (arith, z.ensures.some_groups, c.requires.underway), z.ensures.still_ready);
     }
 
 pub overflow_add-result-2 : goal.overflow_add-result-2
-overflow_add-result-2 c = omega (arith, c.requires.going)
+overflow_add-result-2 c = omega (arith, c.requires.underway)
 
 pub returns : goal.returns
 returns c =
@@ -26,7 +26,7 @@ returns c =
     let p = c.put4 in
     let at = a.out in
     let d = a.dst.now in record {
-      onward = onward-group a.packet.now a.selector d at (state_of a.width a.reader) c.requires.clean v.value.a v.value.b v.value.c v.value.d v.width (as_reader v.reader) g.ensures.value
-          c.requires.going.0 (omega (arith, c.requires.going)) c.if-width-eq0.false (omega (arith, c.requires.going)) p.new.dst p.ensures;
-      done = (omega arith, omega (arith, c.requires.going), g.ensures.still_ready);
+      onward = onward-group a.packet.now a.selector.number d at (state_of a.width a.reader) c.requires.underway.clean v.value.a v.value.b v.value.c v.value.d v.width (as_reader v.reader) g.ensures.value
+          c.requires.underway.go (omega (arith, c.requires.underway)) c.if-width-eq0.false (omega (arith, c.requires.underway)) p.new.dst p.ensures;
+      done = (omega arith, omega (arith, c.requires.underway), g.ensures.still_ready);
     }

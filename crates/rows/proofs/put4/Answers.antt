@@ -1,7 +1,5 @@
 -- `put4` meets its contract. Assumes nothing.
-use borrow.Author.Rules.{rules}
-use mir.Syntax.{w32}
-use mir.Val.{SFits}
+use Rattle.std.proofs.Common.{rules, w32, SFits}
 use mir.ValLaws.{to_z-of_z}
 use Rattle.rows.proofs.put4.Goals.{After-put-2, After-put-3}
 use Rattle.rows.proofs.put4.Goals as goal

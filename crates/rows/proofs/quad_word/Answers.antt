@@ -1,10 +1,5 @@
 -- `quad_word` meets its contract. Assumes nothing.
-use borrow.Author.Rules.{rules}
-use native.Mathlib.Omega.{arith}
-use mathlib.Core.Path.{◌∙◌}
-use Prim.Native.Nat.{◌*◌, ◌%◌, ◌^◌}
-use mir.Syntax.{w32}
-use mir.Val.{SFits}
+use Rattle.std.proofs.Common.{rules, arith, ◌∙◌, ◌*◌, ◌%◌, ◌^◌, w32, SFits}
 use mir.ValLaws.{to_z-of_z}
 use Rattle.rows.specs.Word.{split_of, quad_of}
 use Rattle.rows.proofs.WordLaws.{scaled-zero, front-lt}

@@ -1,7 +1,5 @@
 -- `run_word` meets its contract. Assumes nothing.
-use native.Mathlib.Omega.{arith}
-use mathlib.Core.Path.{refl}
-use Prim.Native.Nat.{◌+◌, ◌-◌, ◌*◌, ◌%◌, ◌^◌, ◌≤◌}
+use Rattle.std.proofs.Common.{arith, refl, ◌+◌, ◌-◌, ◌*◌, ◌%◌, ◌^◌, ◌≤◌}
 use lib.Count.{count_leading_zeros, leading_le}
 use Rattle.rows.proofs.RunWord.{length-le, run-all, run_end, run_more}
 use Rattle.rows.proofs.run_word.Goals.{After-bit_length-most, Else-left-v}

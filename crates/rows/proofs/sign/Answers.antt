@@ -1,8 +1,5 @@
 -- `sign` meets its contract. Assumes nothing.
-use borrow.Author.Rules.{rules}
-use mathlib.Core.Path.{◌∙◌}
-use mir.Syntax.{w32}
-use mir.Val.{SFits}
+use Rattle.std.proofs.Common.{rules, ◌∙◌, w32, SFits}
 use mir.ValLaws.{to_z-of_z}
 use Rattle.format.specs.Coefficients.{sign_of}
 use Rattle.rows.proofs.sign.Goals.{After-read-t}

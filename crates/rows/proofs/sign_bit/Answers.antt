@@ -1,9 +1,5 @@
 -- `sign_bit` meets its contract. Assumes nothing.
-use borrow.Author.Rules.{rules}
-use mathlib.Core.Path.{◌∙◌}
-use native.Mathlib.Omega.{arith}
-use mir.Syntax.{w32}
-use mir.Val.{SFits}
+use Rattle.std.proofs.Common.{rules, ◌∙◌, arith, w32, SFits}
 use mir.ValLaws.{to_z-of_z}
 use Rattle.rows.specs.Word.{sign_bit_of}
 use Rattle.rows.proofs.sign_bit.Goals as goal

@@ -1,10 +1,5 @@
 -- `signs` meets its contract. Assumes nothing.
-use borrow.Author.Rules.{rules}
-use mathlib.Core.Path.{◌∙◌, ap}
-use native.Mathlib.Omega.{arith}
-use lib.IntN.{ℤ}
-use mir.Syntax.{w32}
-use mir.Val.{SFits}
+use Rattle.std.proofs.Common.{rules, ◌∙◌, ap, arith, ℤ, w32, SFits}
 use mir.ValLaws.{to_z-of_z}
 use Rattle.rows.proofs.SignWord.{signs-word}
 use Rattle.rows.specs.Word.{sign_bit_of}
@@ -58,7 +53,7 @@ returns c =
         to_z-of_z w32 d.result.value rd,
         c.skip.ensures.value,
       )
-          (signs-word g.args.packet.now (as_reader g.args.reader) w h.ahead-word.ensures h.if-reader-lt4.false g.args.selector (as_four g.args.q)
+          (signs-word g.args.packet.now (as_reader g.args.reader) w h.ahead-word.ensures h.if-reader-lt4.false g.args.selector.number (as_four g.args.q)
           a.result b.result c'.result d.result (omega arith) (omega arith) (omega arith)
           (a.ensures.value ∙ ap (λ (m : ℤ). sign_bit_of m w 0) (to_z-of_z w32 a0.result fa ∙ a0.ensures))
           (b.ensures.value ∙ ap (λ (m : ℤ). sign_bit_of m w a.result.used) (to_z-of_z w32 b0.result fb ∙ b0.ensures))

@@ -1,10 +1,6 @@
 -- `signs_apart` meets its contract. Assumes nothing.
-use borrow.Author.Rules.{rules}
-use mir.Syntax.{w32}
-use mir.Val.{SFits}
+use Rattle.std.proofs.Common.{rules, w32, SFits, ap, ◌∙◌, ℤ}
 use mir.ValLaws.{to_z-of_z}
-use mathlib.Core.Path.{ap, ◌∙◌}
-use lib.IntN.{ℤ}
 use Rattle.bits.specs.View.{as_reader}
 use Rattle.format.specs.Coefficients.{sign_of, signs_of}
 use Rattle.rows.proofs.signs_apart.Goals.{After-sign-b, After-sign-c, After-sign-d}

@@ -1,15 +1,8 @@
 -- `step_word` meets its contract. Assumes nothing.
-use native.Mathlib.Omega.{arith}
-use mathlib.Core.Path.{◌≡◌, refl, ap}
-use mathlib.Core.Bool.{cond}
-use Prim.Native.Nat.{ℕ, ◌+◌, ◌*◌, ◌/◌, ◌%◌, ◌^◌, ◌≤◌}
-use lib.IntN.{ℤ, pos, ◌+ℤ◌}
-use lib.ListN.{get_or}
+use Rattle.std.proofs.Common.{arith, ◌≡◌, refl, ap, cond, ℕ, ◌+◌, ◌*◌, ◌/◌, ◌%◌, ◌^◌, ◌≤◌, ℤ, pos, ◌+ℤ◌, get_or, w8, w64, SFits, to_z, of_z, to_z-of_z}
 use lib.Signed.{le_z}
-use mir.Syntax.{w8, w64}
-use mir.Val.{SFits, to_z, of_z}
 use mir.ValLaws.{to_z_pos}
-use mir.Facts.{to_z-of_z, sfits_widen}
+use mir.Facts.{sfits_widen}
 use Rattle.lists.proofs.Tab.{get_or-tab}
 use lib.Count.{count_leading_zeros}
 use Rattle.lists.specs.Lists.{tab}

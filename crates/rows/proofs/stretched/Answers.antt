@@ -1,14 +1,6 @@
 -- `stretched` meets its contract. Assumes nothing.
-use borrow.Author.Rules.{rules}
-use mathlib.Core.Path.{◌≡◌, ap, ◌∙◌}
-use mathlib.Core.Bool.{cond}
-use Prim.Native.Nat.{ℕ, ◌-◌, ◌*◌, ◌%◌, ◌^◌}
-use native.Mathlib.Omega.{arith}
-use lib.IntN.{ℤ, pos, nat_abs, ◌+ℤ◌, ◌-ℤ◌, ◌*ℤ◌}
+use Rattle.std.proofs.Common.{rules, ◌≡◌, ap, ◌∙◌, cond, ℕ, ◌-◌, ◌*◌, ◌%◌, ◌^◌, arith, ℤ, pos, nat_abs, ◌+ℤ◌, ◌-ℤ◌, ◌*ℤ◌, w32, w64, SFits, to_z, of_z, to_z-of_z}
 use lib.Signed.{lt_z}
-use mir.Syntax.{w32, w64}
-use mir.Val.{SFits, to_z, of_z}
-use mir.Facts.{to_z-of_z}
 use Rattle.wrap32.specs.Cut.{wrap}
 use Rattle.wrap32.proofs.Laws.{wide, cut_fits, read_back, add_wide, mag-add, mag-diff}
 use Rattle.rows.proofs.StretchLaws.{shifted-left, half-less, stretch-sum}
@@ -21,20 +13,20 @@ module _ (c : After-odd) where
   x = c.args.x
 
   abbrev sel : ℕ
-  sel = c.args.selector
+  sel = c.args.selector.number
 
   abbrev half : ℤ
   half = pos (2 ^ (sel - 1) - nat_abs x % 2)
 
   half-fits : SFits w32 half
-  half-fits = (half-less sel (nat_abs x % 2) (omega arith) (omega arith)).1
+  half-fits = (half-less sel (nat_abs x % 2) (omega arith) (omega (arith, c.args.selector.small))).1
 
   half_is : to_z w32 (1 * 2 ^ (sel - 1) % 2 ^ 32) -ℤ to_z w32 (of_z w32 c.odd.result) ≡ half
   half_is =
       let f = c.ranges.x in
       let one : SFits w32 (pos (nat_abs x % 2)) = record { sfits = omega arith } in
       let e : to_z w32 (of_z w32 c.odd.result) ≡ pos (nat_abs x % 2) = read_back (simp to_z-of_z at c.odd.ensures) one in
-      ap (λ (z : ℤ). to_z w32 (1 * 2 ^ (sel - 1) % 2 ^ 32) -ℤ z) e ∙ (half-less sel (nat_abs x % 2) (omega arith) (omega arith)).0
+      ap (λ (z : ℤ). to_z w32 (1 * 2 ^ (sel - 1) % 2 ^ 32) -ℤ z) e ∙ (half-less sel (nat_abs x % 2) (omega arith) (omega (arith, c.args.selector.small))).0
 
 pub overflow_sub-h-2 : goal.overflow_sub-h-2
 overflow_sub-h-2 c = rw (half_is c) (half-fits c)
@@ -84,27 +76,35 @@ module _ (c : After-kept-q) where
   }
 
 pub overflow_cast-x : goal.overflow_cast-x
-overflow_cast-x c = rw (scaled-is c) (wide (scaled_fits c))
+overflow_cast-x c =
+    let k = (goal.at.overflow_cast-x c).After-kept-q in
+    rw (scaled-is k) (wide (scaled_fits k))
 
 pub overflow_cast-p : goal.overflow_cast-p
-overflow_cast-p c = let f = plus-fits c in simp to_z-of_z (wide f)
+overflow_cast-p c =
+    let k = (goal.at.overflow_cast-p c).After-kept-q in
+    let f = plus-fits k in simp to_z-of_z (wide f)
 
 pub overflow_cast-q : goal.overflow_cast-q
-overflow_cast-q c = let f = minus-fits c in simp to_z-of_z (wide f)
+overflow_cast-q c =
+    let k = (goal.at.overflow_cast-q c).After-kept-q in
+    let f = minus-fits k in simp to_z-of_z (wide f)
 
 pub overflow_add-x : goal.overflow_add-x
 overflow_add-x c =
-    let f = scaled_fits c in
-    let g = plus-fits c in
-    simp (scaled-is c, to_z-of_z, wide) (sum_fits c)
+    let k = (goal.at.overflow_add-x c).After-kept-q in
+    let f = scaled_fits k in
+    let g = plus-fits k in
+    simp (scaled-is k, to_z-of_z, wide) (sum_fits k)
 
 pub overflow_sub-x : goal.overflow_sub-x
 overflow_sub-x c =
-    let f = scaled_fits c in
-    let g = plus-fits c in
-    let h = minus-fits c in
-    let s = sum_fits c in
-    simp (scaled-is c, to_z-of_z, wide) (all-fits c)
+    let k = (goal.at.overflow_sub-x c).After-kept-q in
+    let f = scaled_fits k in
+    let g = plus-fits k in
+    let h = minus-fits k in
+    let s = sum_fits k in
+    simp (scaled-is k, to_z-of_z, wide) (all-fits k)
 
 pub returns : goal.returns
 returns c =

@@ -1,5 +1,5 @@
 -- `width_after` meets its contract. Assumes nothing.
-use borrow.Author.Tests.{eq-eqb, ne_eqb}
+use Rattle.std.proofs.Common.{eq-eqb, ne_eqb}
 use Rattle.format.specs.Coefficients.{width_after}
 use Rattle.rows.proofs.width_after.Goals as goal
 

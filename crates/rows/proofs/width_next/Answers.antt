@@ -1,5 +1,6 @@
 -- `width_next` meets its contract. Assumes nothing.
-use borrow.Author.Tests.{le-leb, lt-leb}
+use Rattle.std.proofs.Common.{le-leb}
+use borrow.Author.Tests.{lt-leb}
 use Rattle.format.specs.Coefficients.{width_next}
 use Rattle.rows.proofs.width_next.Goals as goal
 

@@ -1,10 +1,6 @@
 -- `with_bit` meets its contract. Assumes nothing.
-use borrow.Author.Tests.{eq-eqb, ne_eqb}
-use native.Mathlib.Omega.{arith}
-use mathlib.Core.Path.{◌≡◌, ap, ◌∙◌}
-use lib.IntN.{ℤ, pos, neg_ℤ, ◌-ℤ◌, +ℤ_idl}
-use mir.Syntax.{w32}
-use mir.Val.{to_z, of_z}
+use Rattle.std.proofs.Common.{eq-eqb, ne_eqb, arith, ◌≡◌, ap, ◌∙◌, ℤ, pos, neg_ℤ, ◌-ℤ◌, w32, to_z, of_z}
+use lib.IntN.{+ℤ_idl}
 use mir.ValLaws.{to_z-of_z, to_z_pos}
 use Rattle.wrap32.proofs.Laws.{neg-fits}
 use Rattle.rows.specs.Word.{signed_of}

@@ -1,10 +1,7 @@
 -- `with_sign` meets its contract. Assumes nothing.
-use borrow.Author.Tests.{eq-eqb, ne_eqb}
-use mathlib.Core.Path.{◌≡◌, ap, ◌∙◌}
-use lib.IntN.{ℤ, pos, neg_ℤ, ◌-ℤ◌, +ℤ_idl}
-use mir.Syntax.{w32}
-use mir.Val.{to_z, of_z, SFits}
+use Rattle.std.proofs.Common.{eq-eqb, ne_eqb, ◌≡◌, ap, ◌∙◌, ℤ, pos, neg_ℤ, ◌-ℤ◌, w32, to_z, of_z, SFits}
 use mir.ValLaws.{to_z-of_z}
+use lib.IntN.{+ℤ_idl}
 use Rattle.wrap32.proofs.Laws.{turned-fits}
 use Rattle.rows.proofs.with_sign.Goals.{Start}
 use Rattle.rows.proofs.with_sign.Goals as goal

@@ -1,5 +1,5 @@
 -- `zero_groups` meets its contract. Assumes nothing.
-use native.Mathlib.Omega.{arith}
+use Rattle.std.proofs.Common.{arith}
 use Rattle.format.specs.Coefficients.{zeros_of}
 use Rattle.rows.proofs.zero_groups.Goals.{After-width_after-n}
 use Rattle.rows.proofs.zero_groups.Goals as goal

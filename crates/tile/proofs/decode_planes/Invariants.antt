@@ -5,4 +5,4 @@ use Rattle.tile.proofs.PacketLaws.{counts_by}
 use Rattle.tile.proofs.decode_planes.Given as goal
 
 abbrev pub invariant-loop-p : goal.invariant-loop-p
-invariant-loop-p l = (l.counts ≡ counts_by l.stream l.p) × Going l.stream l.z l.p 0 l.work l.full l.red l.blue
+invariant-loop-p l = (l.counts ≡ counts_by l.checked.stream l.p) × Going l.checked.stream l.z l.p 0 l.work l.full l.red l.blue

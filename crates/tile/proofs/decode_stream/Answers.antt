@@ -8,11 +8,11 @@ use Rattle.tile.proofs.PacketLaws.{tile-below}
 use Rattle.tile.proofs.AfterLaws.{refused-answer, refused-plane, refused-work, accepted-answer, accepted-plane, accepted-work}
 use Rattle.tile.proofs.decode_stream.Goals as goal
 
-pub returns-in_err-need : goal.returns-in_err-need
-returns-in_err-need c =
+pub returns-in_err-accepted : goal.returns-in_err-accepted
+returns-in_err-accepted c =
     let a = c.args in
     let s = a.stream.now in
-    let is = c.in_err-need.ensures.refusal in
+    let is = c.in_err-accepted.ensures.refusal in
     record {
       answer = refused-answer s _ _ is _ c.from_residual.ensures.1;
       greens = refused-plane s _ _ is green a.green.now;
@@ -22,10 +22,7 @@ returns-in_err-need c =
     }
 
 pub decode_accepted-counts-requires : goal.decode_accepted-counts-requires
-decode_accepted-counts-requires c = record {
-  accepted = accepted _ _ _ _ _ (sym c.in_ok-need.ensures.refusal);
-  needed = c.in_ok-need.ensures.needed;
-}
+decode_accepted-counts-requires c = rw c.in_ok-accepted.ensures.same (accepted _ _ _ _ _ (sym c.in_ok-accepted.ensures.refusal))
 
 -- stopped is the sum of both counts
 pub overflow_add-result : goal.overflow_add-result
@@ -35,9 +32,9 @@ pub returns : goal.returns
 returns c =
     let a = c.args in
     let s = a.stream.now in
-    let none = sym c.in_ok-need.ensures.refusal in
-    let is = needed_is s _ c.in_ok-need.ensures.needed in
-    let n = c.decode_accepted-counts.ensures in
+    let none = sym c.in_ok-accepted.ensures.refusal in
+    let is = rw c.in_ok-accepted.ensures.same at (needed_is _ c.in_ok-accepted.accepted.need c.in_ok-accepted.accepted.needed) in
+    let n = rw c.in_ok-accepted.ensures.same at c.decode_accepted-counts.ensures in
     record {
       answer = accepted-answer s _ none _ _ _ _ (ap (λ (x : Lengths). x.width) is) (ap (λ (x : Lengths). x.height) is) (ap (λ (x : Lengths). x.rows) is) n.value;
       greens = accepted-plane s _ none green a.green.now _ n.slices_after.0;

@@ -1,5 +1,5 @@
 -- `writer::recover_and_write` meets its contract. Assumes nothing.
-use Rattle.std.proofs.Common.{arith, ◌≡◌, sym, ap, ◌∙◌, subst, ℕ, ◌+◌, List, ℤ, length}
+use Rattle.std.proofs.Common.{◌≡◌, sym, ap, ◌∙◌, subst, ℕ, ◌+◌, List, ℤ, length}
 use Rattle.format.specs.Sizes.{Colour, stripes, guarded, work_length}
 use Rattle.format.specs.Recovery as format
 use Rattle.format.specs.Tile.{slice}
@@ -12,18 +12,15 @@ use Rattle.writer.proofs.PlaneLaws.{plan-room, holds, filled, numbers-refused, n
 use Rattle.writer.proofs.recover_and_write.Goals.{After-guarded, After-recover}
 use Rattle.writer.proofs.recover_and_write.Goals as goal
 
-pub stripes-n-requires : goal.stripes-n-requires
-stripes-n-requires c = omega (arith, c.requires.0.low)
-
 -- the plan is that of the coded size
-planned : (c : After-guarded) → record { w = c.args.w; n = c.stripes-n.result; guarded = c.guarded.result; slots = c.stripes-n.result + 1 } ≡ plan_of c.args.w c.args.h
-planned c = λ i. record { w = c.args.w; n = c.stripes-n.ensures.0 i; guarded = c.guarded.ensures i; slots = c.stripes-n.ensures.0 i + 1 }
+planned : (c : After-guarded) → record { w = c.args.size.width; n = c.stripes-n.result; guarded = c.guarded.result; slots = c.stripes-n.result + 1 } ≡ plan_of c.args.size.width c.args.size.height
+planned c = λ i. record { w = c.args.size.width; n = c.stripes-n.ensures.0 i; guarded = c.guarded.ensures i; slots = c.stripes-n.ensures.0 i + 1 }
 
 pub recover-requires : goal.recover-requires
 recover-requires c =
     let a = c.args in
     let g = (goal.at.recover-requires c).After-guarded in
-    subst (λ (z : Plan). Room z (length a.work.now) (length a.full.now) (length a.red.now) (length a.blue.now)) (sym (planned g)) (plan-room a.w a.h _ _ _ c.requires.0 _ c.requires.1)
+    subst (λ (z : Plan). Room z (length a.work.now) (length a.full.now) (length a.red.now) (length a.blue.now)) (sym (planned g)) (plan-room a.size.width a.size.height _ _ _ c.requires.0 _ c.requires.1)
 
 -- the planes, what their numbers refuse, and what work holds
 module _ (c : After-recover) where
@@ -33,38 +30,38 @@ module _ (c : After-recover) where
   abbrev g : After-guarded
   g = (goal.at.After-recover c).After-guarded
 
-  pub numbers : numbers_refusal c.guarded.result c.stripes-n.result c.args.w lent ≡ numbers_refusal (guarded c.args.h) (stripes c.args.h) c.args.w lent
+  pub numbers : numbers_refusal c.guarded.result c.stripes-n.result c.args.size.width lent ≡ numbers_refusal (guarded c.args.size.height) (stripes c.args.size.height) c.args.size.width lent
   numbers = ap (λ (z : Plan). numbers_refusal z.guarded z.n z.w lent) (planned g)
 
-  pub made : Recovered (plan_of c.args.w c.args.h) lent c.recover.new.work
+  pub made : Recovered (plan_of c.args.size.width c.args.size.height) lent c.recover.new.work
   made = subst (λ (z : Plan). Recovered z lent c.recover.new.work) (planned g) c.recover.ensures.recovered
 
-  pub long : length c.recover.new.work ≡ work_length c.args.w c.args.h
+  pub long : length c.recover.new.work ≡ work_length c.args.size.width c.args.size.height
   long = c.recover.ensures.same_length ∙ c.requires.1
 
 pub returns-in_err-recover : goal.returns-in_err-recover
 returns-in_err-recover c =
     let m = (goal.at.returns-in_err-recover c).After-recover in
     let a = c.args in
-    let e = numbers-refused a.w a.h (length a.stream.now) (lent m) _ (c.in_err-recover.ensures.value ∙ numbers m) in record {
+    let e = numbers-refused a.size.width a.size.height (length a.stream.now) (lent m) _ (c.in_err-recover.ensures.value ∙ numbers m) in record {
       value = told_exit _ _ c.from_residual.ensures.1 ∙ refused-answer _ _ _ e;
       same_length = c.recover.ensures.same_length;
-      stream_after = refused-stream _ _ a.w a.h _ a.stream.now e;
+      stream_after = refused-stream _ _ a.size.width a.size.height _ a.stream.now e;
     }
 
 pub write_coefficients-requires : goal.write_coefficients-requires
 write_coefficients-requires c =
     let m = (goal.at.write_coefficients-requires c).After-recover in
-    filled c.args.w c.args.h _ _ _ c.requires.0 (lent m) _ (long m) (made m) (sym (c.in_ok-recover.ensures.value ∙ numbers m))
+    filled c.args.size.width c.args.size.height _ _ _ c.requires.0 (lent m) _ (long m) (made m) (sym (c.in_ok-recover.ensures.value ∙ numbers m))
 
 pub returns : goal.returns
 returns c =
     let m = (goal.at.returns c).After-recover in
     let a = c.args in
-    let v = format.recover a.w a.h (lent m) in
-    let h = holds a.w a.h _ _ _ c.requires.0 (lent m) c.recover.new.work (long m) (made m) in
-    let q = numbers-fine a.w a.h (length a.stream.now) (lent m) (sym (c.in_ok-recover.ensures.value ∙ numbers m)) in record {
-      value = c.write_coefficients.ensures.value v h ∙ ap (λ (n : ℕ). answer_by n (stream_length a.w a.h v)) q;
+    let v = format.recover a.size.width a.size.height (lent m) in
+    let h = holds a.size.width a.size.height _ _ _ c.requires.0 (lent m) c.recover.new.work (long m) (made m) in
+    let q = numbers-fine a.size.width a.size.height (length a.stream.now) (lent m) (sym (c.in_ok-recover.ensures.value ∙ numbers m)) in record {
+      value = c.write_coefficients.ensures.value v h ∙ ap (λ (n : ℕ). answer_by n (stream_length a.size.width a.size.height v)) q;
       same_length = c.recover.ensures.same_length;
-      stream_after = c.write_coefficients.ensures.stream_after v h ∙ ap (λ (n : ℕ). stream_by n a.w a.h v a.stream.now) q;
+      stream_after = c.write_coefficients.ensures.stream_after v h ∙ ap (λ (n : ℕ). stream_by n a.size.width a.size.height v a.stream.now) q;
     }

@@ -1,6 +1,5 @@
 -- `writer::write_coefficients` meets its contract. Assumes nothing.
-use Rattle.std.proofs.Common.{◌≡◌, sym, ◌∙◌, length, arith}
-use lib.Seq.{length-take-le}
+use Rattle.std.proofs.Common.{◌≡◌, sym, ◌∙◌, length, arith, length-take-le}
 use Rattle.format.specs.Coefficients.{Coefs}
 use Rattle.assembly.specs.Tile.{Holds}
 use Rattle.refusals.specs.declared.Refusal.TheVariants.{SliceTooShort}
@@ -12,20 +11,20 @@ use Rattle.writer.proofs.write_coefficients.Goals as goal
 pub returns-in_err-sizes : goal.returns-in_err-sizes
 returns-in_err-sizes c =
     let a = c.args in
-    let e : (v : Coefs) → Holds a.w a.h v a.work.now → number_of c.in_err-sizes.field-0.0 ≡ coefs_refusal a.w a.h v (length a.stream.now) = λ v h. too_long a.w a.h (length a.stream.now) v _ (c.in_err-sizes.ensures.refusal v h) in
+    let e : (v : Coefs) → Holds a.size.width a.size.height v a.work.now → number_of c.in_err-sizes.field-0.0 ≡ coefs_refusal a.size.width a.size.height v (length a.stream.now) = λ v h. too_long a.size.width a.size.height (length a.stream.now) v _ (c.in_err-sizes.ensures.refusal v h) in
     record {
       value = λ v h. told_exit _ _ c.from_residual.ensures.1 ∙ refused-answer _ _ _ (e v h);
-      stream_after = λ v h. refused-stream _ _ a.w a.h v a.stream.now (e v h);
+      stream_after = λ v h. refused-stream _ _ a.size.width a.size.height v a.stream.now (e v h);
     }
 
 pub returns-then-stream-n : goal.returns-then-stream-n
 returns-then-stream-n c =
     let a = c.args in
-    let e : (v : Coefs) → Holds a.w a.h v a.work.now → number_of SliceTooShort ≡ coefs_refusal a.w a.h v (length a.stream.now) =
-    λ v h. no_room a.w a.h (length a.stream.now) v (sym (c.in_ok-sizes.ensures.refusal v h)) (omega (arith, (c.in_ok-sizes.ensures.sizes v h).long, c.if-stream-n.true)) in
+    let e : (v : Coefs) → Holds a.size.width a.size.height v a.work.now → number_of SliceTooShort ≡ coefs_refusal a.size.width a.size.height v (length a.stream.now) =
+    λ v h. no_room a.size.width a.size.height (length a.stream.now) v (sym (c.in_ok-sizes.ensures.refusal v h)) (omega (arith, (c.in_ok-sizes.ensures.sizes v h).long, c.if-stream-n.true)) in
     record {
       value = λ v h. refused-answer SliceTooShort _ _ (e v h);
-      stream_after = λ v h. refused-stream SliceTooShort _ a.w a.h v a.stream.now (e v h);
+      stream_after = λ v h. refused-stream SliceTooShort _ a.size.width a.size.height v a.stream.now (e v h);
     }
 
 pub put_stream-requires : goal.put_stream-requires
@@ -38,6 +37,6 @@ pub returns : goal.returns
 returns c =
     let a = c.args in
     record {
-      value = λ v h. written-answer a.w a.h (length a.stream.now) v _ (sym (c.in_ok-sizes.ensures.refusal v h)) (c.in_ok-sizes.ensures.sizes v h).long c.if-stream-n.false;
-      stream_after = λ v h. written-stream a.w a.h _ v a.stream.now _ (sym (c.in_ok-sizes.ensures.refusal v h)) (c.in_ok-sizes.ensures.sizes v h).long c.if-stream-n.false (c.put_stream.ensures v h);
+      value = λ v h. written-answer a.size.width a.size.height (length a.stream.now) v _ (sym (c.in_ok-sizes.ensures.refusal v h)) (c.in_ok-sizes.ensures.sizes v h).long c.if-stream-n.false;
+      stream_after = λ v h. written-stream a.size.width a.size.height _ v a.stream.now _ (sym (c.in_ok-sizes.ensures.refusal v h)) (c.in_ok-sizes.ensures.sizes v h).long c.if-stream-n.false (c.put_stream.ensures v h);
     }

@@ -1,7 +1,7 @@
 -- `put_named` meets its contract: field by field. Assumes nothing.
 use Rattle.std.proofs.Common.{arith}
-use Rattle.encoding.specs.Laws.{appends-both}
-use Rattle.encoding.proofs.Widths.{length-number}
+use Rattle.codes.proofs.Laws.{appends-both}
+use Rattle.codes.proofs.Pushed.{length-number}
 use Rattle.assembly.proofs.front.put_named.Goals as goal
 
 pub put-requires-2 : goal.put-requires-2

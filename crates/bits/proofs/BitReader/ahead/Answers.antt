@@ -1,5 +1,5 @@
 -- `BitReader::ahead` meets its contract. Assumes nothing.
-use mathlib.Core.Path.{◌∙◌}
+use Rattle.std.proofs.Common.{◌∙◌}
 use Rattle.format.proofs.BitLaws.{prefix}
 use Rattle.bits.proofs.BitReader.ahead.Goals as goal
 

@@ -1,6 +1,6 @@
 -- `BitReader::find` meets its contract. Assumes nothing.
-use borrow.Author.Rules.{rules}
-use borrow.Author.Tests.{lt-ltb, le-ltb, le-leb, lt-leb}
+use Rattle.std.proofs.Common.{rules, lt-ltb, le-ltb, le-leb}
+use borrow.Author.Tests.{lt-leb}
 use Rattle.format.specs.Reader.{find_of}
 use Rattle.bits.proofs.BitReader.find.Goals as goal
 

@@ -1,14 +1,6 @@
 -- `BitReader::read` meets its contract. Assumes nothing.
-use borrow.Author.Tests.{le-leb, lt-leb}
-use mathlib.Core.Path.{◌≡◌, refl, sym, ap, ◌∙◌}
-use mathlib.Core.Bool.{cond}
-use mathlib.Core.List.{List}
-use mathlib.Core.Logic.{⊎_elim}
-use Prim.Native.Nat.{ℕ, ◌-◌, ◌+◌, ◌*◌, ◌%◌, ◌^◌, ◌≤◌, ◌<◌, min}
-use native.Mathlib.Nat.{mul-one}
-use native.Mathlib.Omega.{arith}
-use lib.Dec.{leb}
-use lib.Pow.{shl_exact, shl_lt}
+use Rattle.std.proofs.Common.{le-leb, ◌≡◌, refl, sym, ap, ◌∙◌, cond, List, ⊎_elim, ℕ, ◌-◌, ◌+◌, ◌*◌, ◌%◌, ◌^◌, ◌≤◌, ◌<◌, min, mul-one, arith, leb, shl_exact, shl_lt}
+use borrow.Author.Tests.{lt-leb}
 use Rattle.format.specs.Bits.{bits_at}
 use Rattle.format.specs.Reader.{Reader, read_of}
 use Rattle.format.proofs.BitLaws.{prefix, bits-lt, le-or-lt}

@@ -1,7 +1,5 @@
 -- `BitReader::read4` meets its contract. Assumes nothing.
-use mathlib.Core.Path.{sym, ◌∙◌}
-use Prim.Native.Nat.{◌+◌, ◌*◌}
-use native.Mathlib.Omega.{arith}
+use Rattle.std.proofs.Common.{sym, ◌∙◌, ◌+◌, ◌*◌, arith}
 use Rattle.format.proofs.FourLaws.{four-within}
 use Rattle.format.proofs.BitLaws.{prefix, middle, bits-lt}
 use Rattle.format.specs.Coefficients.{four_of}

@@ -1,6 +1,5 @@
 -- `BitReader::unary` meets its contract. Assumes nothing.
-use borrow.Author.Rules.{rules}
-use borrow.Author.Tests.{lt-ltb, le-ltb}
+use Rattle.std.proofs.Common.{rules, lt-ltb, le-ltb}
 use Rattle.format.specs.Reader.{unary_of}
 use Rattle.bits.proofs.BitReader.unary.Goals as goal
 

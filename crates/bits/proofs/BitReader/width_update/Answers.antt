@@ -1,8 +1,5 @@
 -- `BitReader::width_update` meets its contract. Assumes nothing.
-use mathlib.Core.Path.{ap, sym, ◌∙◌}
-use Prim.Native.Nat.{◌≤◌}
-use native.Mathlib.Omega.{arith}
-use lib.Dec.{lit≤}
+use Rattle.std.proofs.Common.{ap, sym, ◌∙◌, ◌≤◌, arith, lit≤}
 use Rattle.format.specs.Reader.{Reader, skipped}
 use Rattle.format.proofs.BitLaws.{prefix-of}
 use Rattle.bits.specs.View.{as_reader, change_of}

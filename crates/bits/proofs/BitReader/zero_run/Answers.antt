@@ -1,11 +1,5 @@
 -- `BitReader::zero_run` meets its contract. Assumes nothing.
-use borrow.Author.Rules.{rules}
-use mathlib.Core.Path.{◌≡◌, ap, ◌∙◌}
-use Prim.Native.Nat.{ℕ, ◌*◌, ◌%◌, ◌^◌, ◌<◌}
-use native.Mathlib.Nat.{one-mul}
-use native.Mathlib.Omega.{arith}
-use lib.Dec.{lit<}
-use lib.Pow.{pow_pos, shl_exact}
+use Rattle.std.proofs.Common.{rules, ◌≡◌, ap, ◌∙◌, ℕ, ◌*◌, ◌%◌, ◌^◌, ◌<◌, one-mul, arith, lit<, pow_pos, shl_exact}
 use Rattle.format.specs.Reader.{find_of, at_most}
 use Rattle.bits.specs.View.{as_reader, as_taken}
 use Rattle.format.proofs.RunLaws.{exponent_lt, power_below, run-one, run_none, run-stopped, run-part}

@@ -1,6 +1,6 @@
 -- `group_tail` meets its contract. Assumes nothing.
 use Rattle.std.proofs.Common.{◌+◌, arith}
-use Rattle.encoding.specs.Wrote.{line}
+use Rattle.encoding.specs.Numbers.{line}
 use Rattle.encoding.proofs.Widths.{width-most}
 use Rattle.encoding.proofs.Turns.{next_last, next_more}
 use Rattle.encoding.proofs.Row.group_tail.Goals as goal

@@ -1,6 +1,6 @@
 -- `turn` meets its contract. Assumes nothing.
 use Rattle.std.proofs.Common.{sym, ◌∙◌, arith}
-use Rattle.encoding.specs.Wrote.{line}
+use Rattle.encoding.specs.Numbers.{line}
 use Rattle.encoding.proofs.Widths.{run-some, run_ends}
 use Rattle.encoding.proofs.Turns.{turn-run, turn-group}
 use Rattle.encoding.proofs.Row.turn.Goals as goal

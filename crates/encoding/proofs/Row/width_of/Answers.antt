@@ -1,7 +1,7 @@
 -- `width_of` meets its contract. Assumes nothing.
 use Rattle.std.proofs.Common.{◌≡◌, refl}
 use Rattle.format.specs.Writing.{group_width}
-use Rattle.encoding.specs.Wrote.{line}
+use Rattle.encoding.specs.Numbers.{line}
 use Rattle.encoding.proofs.Widths.{width-most}
 use Rattle.encoding.proofs.Row.width_of.Goals as goal
 

@@ -1,7 +1,7 @@
 -- `zero_groups` meets its contract. Assumes nothing.
 use Rattle.std.proofs.Common.{◌≡◌, ◌+◌, ◌-◌}
 use Rattle.format.specs.Writing.{zero_groups}
-use Rattle.encoding.specs.Wrote.{line}
+use Rattle.encoding.specs.Numbers.{line}
 use Rattle.encoding.proofs.Row.zero_groups.Given as goal
 
 abbrev pub invariant-loop-k : goal.invariant-loop-k

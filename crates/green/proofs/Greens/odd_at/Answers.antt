@@ -3,7 +3,7 @@ use Rattle.std.proofs.Common.{◌≡◌, ◌+◌, ◌-◌, sym, arith}
 use Rattle.lists.proofs.Tab.{part-back, length_part, length-tab}
 use Rattle.passes.specs.Level.{band_at, band_row}
 use Rattle.green.specs.Green.{odd_row, odd_g}
-use Rattle.green.proofs.RowLaws.{part_before}
+use Rattle.lifting.proofs.LiftLaws.{part_before}
 use Rattle.green.proofs.Greens.odd_at.Goals as goal
 
 pub returns : goal.returns
@@ -17,9 +17,9 @@ returns c =
     let p = band_at g.d n (s.y - 1) in
     let q = band_at g.d n s.y in
     let r = c.requires in
-    let ra = r.0.averages s.y r.1 in
-    let rp = r.0.details (s.y - 1) (omega arith) in
-    let rq = r.0.details s.y r.1 in
+    let ra = g.within.averages s.y r.0 in
+    let rp = g.within.details (s.y - 1) (omega arith) in
+    let rq = g.within.details s.y r.0 in
     let na : a + n - a ≡ n = omega arith in
     let np : p + n - p ≡ n = omega arith in
     let nq : q + n - q ≡ n = omega arith in

@@ -12,7 +12,7 @@ loop-k-init c =
     let g = s.self in
     let w = s.work.now in
     let z : s.from + 0 ≡ s.from = omega arith in
-    let o = written w c.odd_at.new.work g.d g.l g.c s.from g.at c.odd_at.ensures (omega (arith, c.requires.3)) in record {
+    let o = written w c.odd_at.new.work g.d g.l g.c s.from g.at c.odd_at.ensures (omega (arith, c.requires.2)) in record {
       a_in = (omega arith, omega arith);
       b_in = (omega arith, omega arith);
       apart = inl (omega arith);
@@ -27,8 +27,8 @@ step-requires-clause-here c =
     let g = s.self in
     let p = c.requires in
     let i = c.loop-k.invariant in
-    let y : s.from + c.loop-k.k < g.r = omega (arith, c.loop-k-test.true, p.2) in
-    i.here y ∙ sym (odd-same c.loop-k.work s.work.now g.d g.l g.c g.r g.at i.below p.0.details p.0.averages (s.from + c.loop-k.k) y)
+    let y : s.from + c.loop-k.k < g.r = omega (arith, c.loop-k-test.true, p.1) in
+    i.here y ∙ sym (odd-same c.loop-k.work s.work.now g.d g.l g.c g.r g.at i.below g.within.details g.within.averages (s.from + c.loop-k.k) y)
 
 pub loop-k-preserved : goal.loop-k-preserved
 loop-k-preserved c =
@@ -38,11 +38,11 @@ loop-k-preserved c =
     let i = c.loop-k.invariant in
     let w = s.work.now in
     let k = c.loop-k.k in
-    let y : s.from + k < g.r = omega (arith, c.loop-k-test.true, p.2) in
+    let y : s.from + k < g.r = omega (arith, c.loop-k-test.true, p.1) in
     let z = c.step.ensures in
     let n : s.from + k + 1 ≡ s.from + (k + 1) = omega arith in
-    let e = full-same c.loop-k.work w g.d g.l g.c g.r g.at i.below p.0.details p.0.averages (s.from + k) y in
-    let odd = odd-same c.loop-k.work w g.d g.l g.c g.r g.at i.below p.0.details p.0.averages (s.from + k + 1) in rw (c.swap.ensures.x_after, c.swap.ensures.y_after) record {
+    let e = full-same c.loop-k.work w g.d g.l g.c g.r g.at i.below g.within.details g.within.averages (s.from + k) y in
+    let odd = odd-same c.loop-k.work w g.d g.l g.c g.r g.at i.below g.within.details g.within.averages (s.from + k + 1) in rw (c.swap.ensures.x_after, c.swap.ensures.y_after) record {
       a_in = i.b_in;
       b_in = i.a_in;
       apart = apart-turned _ _ _ _ i.apart;

@@ -1,5 +1,5 @@
 -- `packets::directory::parse_directory` meets its contract. Assumes nothing.
-use mathlib.Core.Path.{◌≡◌}
+use Rattle.std.proofs.Common.{◌≡◌}
 use Rattle.format.specs.Refusals.{each, group_refusal}
 use Rattle.packets.proofs.directory.parse_directory.Given as goal
 

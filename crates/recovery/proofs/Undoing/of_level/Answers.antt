@@ -9,11 +9,12 @@ use Rattle.recovery.proofs.Undoing.of_level.Goals as goal
 
 pub returns : goal.returns
 returns c =
-    let z = c.args.z in
-    let at = c.args.at in
+    let k = c.args.b in
+    let z = k.z in
+    let at = k.at in
     let from = c.args.from in
-    let whole = c.requires.0.0.whole in
-    let all = c.requires.1 in
+    let whole = k.fits.0.whole in
+    let all = c.requires.0 in
     let u = c.unit-u.ensures in
     elim c.match-s.branch [
       | in-First w ↦

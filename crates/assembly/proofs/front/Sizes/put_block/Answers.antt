@@ -2,10 +2,10 @@
 use Rattle.std.proofs.Common.{◌≡◌, ◌++◌, List, ℕ, arith}
 use Rattle.lists.specs.Lists.{rows}
 use Rattle.format.specs.Writing.{number_bits}
-use Rattle.encoding.specs.Wrote.{Appends}
-use Rattle.encoding.specs.declared.BitWriter.{BitWriter}
-use Rattle.encoding.specs.Laws.{appends-none, appends-both, room_after}
-use Rattle.encoding.proofs.Widths.{length-number}
+use Rattle.codes.specs.Wrote.{Appends}
+use Rattle.codes.specs.declared.BitWriter.{BitWriter}
+use Rattle.codes.proofs.Laws.{appends-none, appends-both, room_after}
+use Rattle.codes.proofs.Pushed.{length-number}
 use Rattle.encoding.proofs.Records.{rows_none, rows_next}
 use Rattle.assembly.specs.Front.{entry_of}
 use Rattle.assembly.proofs.Fronts.{length-entries, block-bits}

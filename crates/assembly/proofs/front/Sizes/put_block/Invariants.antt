@@ -1,7 +1,7 @@
 -- `put_block` meets its contract. Assumes nothing.
 use Rattle.lists.specs.Lists.{rows}
 use Rattle.format.specs.Writing.{number_bits}
-use Rattle.encoding.specs.Wrote.{Appends}
+use Rattle.codes.specs.Wrote.{Appends}
 use Rattle.assembly.specs.Front.{entry_of}
 use Rattle.assembly.proofs.front.Sizes.put_block.Given as goal
 

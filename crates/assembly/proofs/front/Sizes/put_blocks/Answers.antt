@@ -1,6 +1,6 @@
 -- `put_blocks` meets its contract. Assumes nothing.
 use Rattle.std.proofs.Common.{arith}
-use Rattle.encoding.specs.Laws.{appends-none, appends-both}
+use Rattle.codes.proofs.Laws.{appends-none, appends-both}
 use Rattle.encoding.proofs.Records.{rows_none, rows_next}
 use Rattle.assembly.specs.Front.{block_of}
 use Rattle.assembly.proofs.Fronts.{length-blocks}

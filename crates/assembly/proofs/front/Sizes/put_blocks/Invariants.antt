@@ -1,5 +1,5 @@
 -- `put_blocks` meets its contract. Assumes nothing.
-use Rattle.encoding.specs.Wrote.{Appends}
+use Rattle.codes.specs.Wrote.{Appends}
 use Rattle.assembly.specs.Front.{blocks_of}
 use Rattle.assembly.proofs.front.Sizes.put_blocks.Given as goal
 

@@ -1,8 +1,8 @@
 -- `put_front` meets its contract. Assumes nothing.
 use Rattle.std.proofs.Common.{ℕ, length, ap, rules, arith}
 use Rattle.std.proofs.Math.ListN.{length-replicate}
-use Rattle.encoding.specs.Laws.{appends-both}
-use Rattle.encoding.proofs.Finished.{fresh-room}
+use Rattle.codes.proofs.Laws.{appends-both}
+use Rattle.codes.proofs.Finished.{fresh-room}
 use Rattle.assembly.proofs.Fronts.{length-named, length-sizes, front-packed}
 use Rattle.assembly.proofs.front.Sizes.put_front.Goals as goal
 

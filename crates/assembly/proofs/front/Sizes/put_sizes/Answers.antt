@@ -1,7 +1,7 @@
 -- `put_sizes` meets its contract. Assumes nothing.
 use Rattle.std.proofs.Common.{arith}
 use Rattle.format.specs.Writing.{number_bits}
-use Rattle.encoding.specs.Laws.{appends-none, appends-both}
+use Rattle.codes.proofs.Laws.{appends-none, appends-both}
 use Rattle.encoding.proofs.Records.{rows_none, rows_next}
 use Rattle.assembly.specs.Front.{group_of}
 use Rattle.assembly.proofs.Fronts.{length-sizes}

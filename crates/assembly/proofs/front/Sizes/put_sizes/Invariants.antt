@@ -1,5 +1,5 @@
 -- `put_sizes` meets its contract. Assumes nothing.
-use Rattle.encoding.specs.Wrote.{Appends}
+use Rattle.codes.specs.Wrote.{Appends}
 use Rattle.assembly.specs.Front.{sizes_of}
 use Rattle.assembly.proofs.front.Sizes.put_sizes.Given as goal
 

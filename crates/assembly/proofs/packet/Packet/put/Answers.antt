@@ -1,9 +1,9 @@
 -- `put` meets its contract: a writer for the headers, and one for the payload. Assumes nothing.
 use Rattle.std.proofs.Common.{◌≡◌, ◌++◌, ◌+◌, ◌-◌, ◌*◌, ◌/◌, ◌≤◌, length, length-append, rules, arith, ◌∙◌}
 use Rattle.format.specs.Writing.{packed}
-use Rattle.encoding.specs.Wrote.{Appends}
-use Rattle.encoding.specs.Laws.{appends-both}
-use Rattle.encoding.proofs.Finished.{fresh-room}
+use Rattle.codes.specs.Wrote.{Appends}
+use Rattle.codes.proofs.Laws.{appends-both}
+use Rattle.codes.proofs.Finished.{fresh-room}
 use Rattle.assembly.specs.Packet.{head_units_of, open_bits, payload_of, heads_of, bits_in}
 use Rattle.assembly.proofs.Shapes.{head-some}
 use Rattle.assembly.proofs.Whole.{head-units, payload-units, room-whole, filled-whole, packet-packed}

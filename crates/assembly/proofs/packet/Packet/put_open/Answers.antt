@@ -1,8 +1,8 @@
 -- `put_open` meets its contract: field by field. Assumes nothing.
 use Rattle.std.proofs.Common.{◌≡◌, ◌/◌, ◌-◌, arith}
 use Rattle.assembly.specs.Packet.{head_units_of}
-use Rattle.encoding.specs.Laws.{appends-both}
-use Rattle.encoding.proofs.Widths.{length-number}
+use Rattle.codes.proofs.Laws.{appends-both}
+use Rattle.codes.proofs.Pushed.{length-number}
 use Rattle.assembly.proofs.Shapes.{head-some, open-bits}
 use Rattle.assembly.proofs.packet.Packet.put_open.Goals as goal
 

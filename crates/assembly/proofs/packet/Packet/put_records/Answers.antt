@@ -1,5 +1,5 @@
 -- `put_records` meets its contract. Assumes nothing.
-use Rattle.encoding.specs.Laws.{appends-none, appends-both, room_after}
+use Rattle.codes.proofs.Laws.{appends-none, appends-both, room_after}
 use Rattle.encoding.proofs.Records.{rows_none, rows_next, rows-within}
 use Rattle.format.specs.Writing.{filled}
 use Rattle.assembly.specs.Packet.{head_of, bits_of, bytes_of}

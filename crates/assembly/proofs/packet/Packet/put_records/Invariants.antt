@@ -1,6 +1,6 @@
 -- `put_records` meets its contract. Assumes nothing.
 use Rattle.std.proofs.Common.{◌≡◌}
-use Rattle.encoding.specs.Wrote.{Appends}
+use Rattle.codes.specs.Wrote.{Appends}
 use Rattle.assembly.specs.Packet.{heads_of, records_of}
 use Rattle.assembly.proofs.packet.Packet.put_records.Given as goal
 

@@ -1,7 +1,0 @@
--- `zeros` meets its contract. Assumes nothing.
-use Rattle.std.proofs.Common.{refl}
-use Rattle.encoding.proofs.Pushed.{number-zeros}
-use Rattle.encoding.proofs.Code.zeros.Goals as goal
-
-pub returns : goal.returns
-returns c = (refl, number-zeros c.args.n)

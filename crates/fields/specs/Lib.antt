@@ -1,0 +1,2 @@
+-- What the contracts of `fields` cite, besides document 01.
+pub mod Kinds
