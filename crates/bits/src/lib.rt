@@ -23,7 +23,8 @@ fn zeros_ahead(packet: &[u8], place: u64, cache: u64, limit: u64) -> u64
     ensures { (result ≡ zeros_at packet.now place limit) × (result ≤ limit) }
 {
     let mut word = cache;
-    for passed in (0..limit).step_by(57) {
+    for k in 0..limit.div_ceil(57) {
+        let passed = 57 * k;
         let z = word.leading_zeros() as u64;
         if z < 57 {
             return limit.min(passed + z);

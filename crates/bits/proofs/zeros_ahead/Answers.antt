@@ -1,9 +1,9 @@
 -- `zeros_ahead` meets its contract. The loop's invariant: every bit that was passed is 0, and the word holds the bits after them. Assumes nothing.
-use Rattle.std.proofs.Common.{◌≡◌, refl, sym, ap, ◌∙◌, List, ⊎_elim, ℕ, ◌+◌, ◌≤◌, ◌<◌, min, arith, add-zero, add_assoc}
+use Rattle.std.proofs.Common.{◌≡◌, refl, sym, ap, ◌∙◌, List, ⊎_elim, ℕ, ◌+◌, ◌≤◌, ◌<◌, ◌*◌, min, arith, add-zero, add_assoc}
 use lib.Count.{count_leading_zeros}
 use Rattle.format.specs.Bits.{bits_at, bit_at, zeros_at}
 use Rattle.format.proofs.BitLaws.{bits_none, le-or-lt, zero-prefix, zeros-all, zeros-found, zeros-join, lead-zeros, lead-none}
-use Rattle.bits.proofs.zeros_ahead.Goals.{After-loop-passed, Else-z-lt57}
+use Rattle.bits.proofs.zeros_ahead.Goals.{Else-z-lt57}
 use Rattle.bits.proofs.zeros_ahead.Goals as goal
 
 -- z zeros and a one, in so many bits
@@ -13,40 +13,37 @@ met s place z limit none one = ⊎_elim
     (λ (h : z < limit). zeros-found s place z limit none one h ∙ omega (arith, h))
     (le-or-lt limit z)
 
-pub loop-passed-init : goal.loop-passed-init
-loop-passed-init c =
+pub loop-k-init : goal.loop-k-init
+loop-k-init c =
     let a = c.args in
-    (bits_none a.packet.now a.place, c.requires.loaded ∙ ap (λ (p : ℕ). bits_at a.packet.now p 57) (sym (add-zero a.place)), omega arith, omega arith)
+    (bits_none a.packet.now a.place, c.requires.loaded ∙ ap (λ (p : ℕ). bits_at a.packet.now p 57) (sym (add-zero a.place)), omega arith)
 
 pub returns-then-z-lt57 : goal.returns-then-z-lt57
 returns-then-z-lt57 c =
     let a = c.args in
     let s = a.packet.now in
-    let l = c.loop-passed in
+    let l = c.loop-k in
+    let passed = 57 * l.k in
     let z = count_leading_zeros 64 l.word in
-    let found = lead-zeros s (a.place + l.passed) l.word z l.invariant.2 l.invariant.1 refl c.if-z-lt57.true in
-    let one : bit_at s (a.place + (l.passed + z)) ≡ 1 = rw (← add_assoc a.place l.passed z) found.1 in
-    (c.min.ensures ∙ sym (met s a.place (l.passed + z) a.limit (zeros-join s a.place l.passed z l.invariant.0 found.0) one), omega (arith, c.min.ensures))
+    let found = lead-zeros s (a.place + passed) l.word z l.invariant.2 l.invariant.1 refl c.if-z-lt57.true in
+    let one : bit_at s (a.place + (passed + z)) ≡ 1 = rw (← add_assoc a.place passed z) found.1 in
+    (c.min.ensures ∙ sym (met s a.place (passed + z) a.limit (zeros-join s a.place passed z l.invariant.0 found.0) one), omega (arith, c.min.ensures))
 
 -- no one in the next word
-none : (c : Else-z-lt57) → bits_at c.args.packet.now c.args.place (c.loop-passed.passed + 57) ≡ 0
+none : (c : Else-z-lt57) → bits_at c.args.packet.now c.args.place (57 * c.loop-k.k + 57) ≡ 0
 none c =
     let a = c.args in
-    let l = c.loop-passed in
-    zeros-join a.packet.now a.place l.passed 57 l.invariant.0 (lead-none a.packet.now (a.place + l.passed) l.word l.invariant.2 l.invariant.1 c.if-z-lt57.false)
+    let l = c.loop-k in
+    zeros-join a.packet.now a.place (57 * l.k) 57 l.invariant.0 (lead-none a.packet.now (a.place + 57 * l.k) l.word l.invariant.2 l.invariant.1 c.if-z-lt57.false)
 
-pub loop-passed-preserved : goal.loop-passed-preserved
-loop-passed-preserved c =
-    let e = c.window-word.ensures in
-    (none (goal.at.loop-passed-preserved c).Else-z-lt57, rw add_assoc at e, omega arith, omega arith)
-
-pub returns-else-z-lt57 : goal.returns-else-z-lt57
-returns-else-z-lt57 c =
+pub loop-k-preserved : goal.loop-k-preserved
+loop-k-preserved c =
     let a = c.args in
-    let zeros = none (goal.at.returns-else-z-lt57 c).Else-z-lt57 in
-    (sym (zeros-all a.packet.now a.place a.limit (zero-prefix a.packet.now a.place a.limit _ zeros (omega arith))), omega arith)
+    let e = c.window-word.ensures in
+    let next : 57 * c.loop-k.k + 57 ≡ 57 * (c.loop-k.k + 1) = omega arith in
+    (rw (← next) (none (goal.at.loop-k-preserved c).Else-z-lt57), rw (← next) (rw add_assoc at e), omega arith)
 
 pub returns : goal.returns
 returns c =
     let a = c.args in
-    (sym (zeros-all a.packet.now a.place a.limit (zero-prefix a.packet.now a.place a.limit c.loop-passed.passed c.loop-passed.invariant.0 (omega arith))), omega arith)
+    (sym (zeros-all a.packet.now a.place a.limit (zero-prefix a.packet.now a.place a.limit (57 * c.loop-k.k) c.loop-k.invariant.0 (omega arith))), omega arith)
