@@ -1,8 +1,9 @@
 // The row kernels of synthesis: 5/3 lifting, E and running sums over rows of i32. Document 01, 'Synthesis'.
 #![tactic(auto)]
 
-ghost use Rattle.std.specs.Prelude.{◌≡◌, ◌*◌, ◌≤◌, length, ℤ};
-ghost use Rattle.lifting.specs.Lift.{low_step, high_step, end_step, step_row, lift_row, edge_row, sum_row};
+ghost use Rattle.std.specs.Prelude.{◌≡◌, ◌+◌, ◌*◌, ◌≤◌, length, ℤ};
+ghost use Rattle.lists.specs.Lists.{part, put_at, Clear};
+ghost use Rattle.lifting.specs.Lift.{low_step, high_step, end_step, step_row, high_row, end_row, lift_row, edge_row, sum_row};
 
 use wrap32::{edge_detail, sign16, wrapping_add, wrapping_sub};
 
@@ -71,6 +72,34 @@ pub fn step_row<S: Step>(dst: &mut [i32], row: &[i32], a: &[i32], b: &[i32])
     for (x, d) in dst.iter_mut().enumerate() {
         *d = S::step(row[x], a[x], b[x]);
     }
+}
+
+// The results of a row by a step, at `to`, with the rows at a and b of the slice that is written.
+fn step_in<S: Step>(ring: &mut [i32], row: &[i32], to: usize, a: usize, b: usize)
+    requires in_bounds { (to + length row.now ≤ length ring.old) × (a + length row.now ≤ length ring.old) × (b + length row.now ≤ length ring.old) }
+    requires clear { Clear to (length row.now) a × Clear to (length row.now) b }
+    ensures { ring.new ≡ put_at ring.old to (step_row S.step (length row.now) row.now (part ring.old a (length row.now)) (part ring.old b (length row.now))) }
+{
+    for x in 0..row.len() {
+        ring[to + x] = S::step(row[x], ring[a + x], ring[b + x]);
+    }
+}
+
+// High results at `to`, between the rows at a and b of the same slice.
+pub fn odd_row(ring: &mut [i32], high: &[i32], to: usize, a: usize, b: usize)
+    requires in_bounds { (to + length high.now ≤ length ring.old) × (a + length high.now ≤ length ring.old) × (b + length high.now ≤ length ring.old) }
+    requires clear { Clear to (length high.now) a × Clear to (length high.now) b }
+    ensures { ring.new ≡ put_at ring.old to (high_row (length high.now) high.now (part ring.old a (length high.now)) (part ring.old b (length high.now))) }
+{
+    step_in::<Between>(ring, high, to, a, b);
+}
+
+// The same where one neighbour is missing: the other itself is added.
+pub fn end_row(ring: &mut [i32], high: &[i32], to: usize, a: usize)
+    requires { (to + length high.now ≤ length ring.old) × (a + length high.now ≤ length ring.old) × Clear to (length high.now) a }
+    ensures { ring.new ≡ put_at ring.old to (end_row (length high.now) high.now (part ring.old a (length high.now))) }
+{
+    step_in::<Beside>(ring, high, to, a, a);
 }
 
 // One row lifted along itself: w lows and w highs give 2 w results.
