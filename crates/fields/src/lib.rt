@@ -2,7 +2,7 @@
 // 'Planes'. Each stands here alone, under the document's name.
 #![tactic(auto)]
 
-ghost use Rattle.std.specs.Prelude.{◌≡◌, ◌^◌, ◌<◌, ◌≤◌, length};
+ghost use Rattle.std.specs.Prelude.{◌≡◌, ◌^◌, ◌<◌, ◌≤◌, length, ⊤};
 ghost use Rattle.format.specs.Bits.{bits_at};
 ghost use Rattle.format.specs.Strip.{width, half_height, coded_height, group_size};
 ghost use Rattle.format.specs.Packets.{control, extra, tag, zero4, kind, zero6, blocks, marker, zero8, padding, size_of, record_bit, record_length, payload_at};
@@ -14,6 +14,7 @@ mod size;
 pub use colour::Colour;
 pub use group::Group;
 pub use size::{Size, guarded, rows_of};
+use std::alloc::AllocError;
 use std::marker::{Model, PhantomData};
 use words::field;
 
@@ -32,6 +33,17 @@ impl<'a, K> Model for Bytes<'a, K> {
     ghost view = { λ p. p.slice.now };
 
     ghost invariant = { λ p. 8 ≤ length p.slice.now };
+}
+
+// A copy, never refused. A derive would say so of the fields, which other crates don't see.
+impl<'a, K> Clone for Bytes<'a, K> {
+    ghost is_clone = { λ s r. r ≡ s };
+
+    ghost is_infallible = { λ _. ⊤ };
+
+    fn clone(&self) -> Result<Self, AllocError> {
+        Ok(Self::new(self.bytes()))
+    }
 }
 
 impl<'a, K> Bytes<'a, K> {

@@ -1,11 +1,11 @@
 // The checks of a stream, which write nothing: document 01, 'Refusals by place of check'. Every refusal is found here.
 #![tactic(auto)]
 
-ghost use Rattle.std.specs.Prelude.{◌≡◌, ◌<◌, not, true, length, IfOk, Ok};
+ghost use Rattle.std.specs.Prelude.{◌≡◌, ◌+◌, ◌<◌, ◌≤◌, not, true, length, IfOk, Ok, ⊤};
 ghost use Rattle.refusals.specs.Number.{code_of};
 ghost use Rattle.format.specs.Sizes.{number, index};
 ghost use Rattle.format.specs.Strip.{coded_height, valid_header};
-ghost use Rattle.format.specs.Packets.{has_entry, packet_of, kind, blocks};
+ghost use Rattle.format.specs.Packets.{has_entry, packet_start, packet_length, packet_of, kind, blocks};
 ghost use Rattle.format.specs.Refusals.{◌▷◌, on, wrong_count, tile_refusal, large_refusal, directory_refusal, entry_check, plane_refusal, packets_refusal, refusal};
 ghost use Rattle.format.specs.Used.{packet_in, stream_refusal};
 ghost use Rattle.format.specs.Tile.{lengths_by, lengths_of};
@@ -14,6 +14,7 @@ ghost use Rattle.packets.specs.Answers.{told, short_of};
 
 use fields::{Colour, Group, Packet, Size, Stream};
 use refusals::Refusal;
+use std::alloc::AllocError;
 use strip::parse_stream_header;
 
 mod directory;
@@ -34,6 +35,14 @@ pub struct Lengths {
     pub red: usize,
     pub blue: usize,
     pub work: usize,
+}
+
+// The packet of an index in a group: a part of the stream itself.
+pub fn packet(stream: &[u8], group: usize, index: usize) -> &[u8]
+    requires { (128 ≤ length stream.now) × (group < 5) × (index < 16) × (packet_start stream.now group index + packet_length stream.now group index ≤ length stream.now) }
+    ensures { result.now ≡ packet_of stream.now group index }
+{
+    Block::of(&Stream::new(stream), group).packet(index)
 }
 
 // Neither n + 1 records nor, guarded, one fewer.
@@ -147,6 +156,19 @@ pub struct Checked<'a> {
     pub ghost passed: { stream_refusal stream ≡ 0 },
 }
 
+// A copy, never refused.
+impl<'a> Clone for Checked<'a> {
+    ghost is_clone = { λ s r. r ≡ s };
+
+    ghost is_infallible = { λ _. ⊤ };
+
+    #[tactic(auto, using(crate::proofs::CopyLaws::checked_same))]
+    fn clone(&self) -> Result<Self, AllocError> {
+        let stream = self.stream.clone()?;
+        Ok(Self { stream })
+    }
+}
+
 impl<'a> Checked<'a> {
     // Packet p, of 13 in the order of document 01's checks.
     #[tactic(auto, using(crate::proofs::TilePackets::there, crate::proofs::TilePackets::long_enough))]
@@ -236,6 +258,20 @@ pub struct Accepted<'a> {
     pub checked: Checked<'a>,
     pub need: Lengths,
     pub ghost needed: { told (Ok need) ≡ lengths_of checked.stream },
+}
+
+// A copy, never refused.
+impl<'a> Clone for Accepted<'a> {
+    ghost is_clone = { λ s r. r ≡ s };
+
+    ghost is_infallible = { λ _. ⊤ };
+
+    #[tactic(auto, using(crate::proofs::CopyLaws::accepted_same))]
+    fn clone(&self) -> Result<Self, AllocError> {
+        let checked = self.checked.clone()?;
+        let need = self.need;
+        Ok(Self { checked, need })
+    }
 }
 
 // All checks of a stream, in the document's order, with the lengths of the lent slices.
