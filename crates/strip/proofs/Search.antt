@@ -1,5 +1,5 @@
 -- Laws of the search for a tile: offset 512, the candidates in turn. Assumes nothing.
-use Rattle.std.proofs.Common.{◌≡◌, ℕ, zero, suc, ◌+◌, ◌-◌, ◌*◌, ◌≤◌, ◌<◌, List, [], ◌∷◌, Option, Some, None, Bool, true, false, cond, ◌&&◌, length, drop, leb, refl, arith, sym, subst, MatchOption, IfSome, IsSomeAnd, IsTrue, option_map, option_and_then, ◌∙◌, ◌/◌, le-leb, eqb}
+use Rattle.std.proofs.Common.{◌≡◌, ℕ, zero, suc, ◌+◌, ◌-◌, ◌*◌, ◌≤◌, ◌<◌, List, [], ◌∷◌, Option, Some, None, Bool, true, false, cond, ◌&&◌, length, drop, leb, refl, arith, sym, ap, subst, MatchOption, IfSome, IsSomeAnd, IsTrue, option_map, option_and_then, ◌∙◌, le-leb, eqb}
 use native.Mathlib.Numerals.{unary_clauses}
 use Rattle.format.specs.Strip.{Tile, only_if, tile_at, valid_header, payload, alone, listed, or_else, first_taken}
 use Rattle.strip.specs.declared.TileStream.{TileStream}
@@ -59,11 +59,17 @@ module _ (f : ℕ → Option Tile) where
       let here : located_tile_of (f at) ≡ None = simp unary_clauses at (none 0 (omega arith)) in
       rw (passed (f at) (first_taken f (at + 16) n) here) (first_is (at + 16) n i t (omega arith) (λ k l. rw (next at k) (none (suc k) (omega arith))) (rw (next at i) some))
 
--- ---- what `find_map` found, where Q says that it passed a place on, and R what it took there
+-- ---- what `find_map` found over the numbers from 0, where Q says that it passed a number on, and R what it took there
 
 same_some : (o : Option ℕ) (v : ℕ) → option_map (λ y. y) o ≡ Some v → o ≡ Some v
 same_some (Some x) v e = e
 same_some None v e = cc
+
+-- the numbers from 0, each at its own place
+pub counts_from_0 : (at : ℕ → Option ℕ) (len a : ℕ) → a ≡ 0 → ((k : ℕ) → k < len → option_map (λ y. y) (at k) ≡ Some (a + k)) → (k : ℕ) → k < len → at k ≡ Some k
+counts_from_0 at len a from each k h =
+    let place : a + k ≡ k = omega arith in
+    same_some (at k) k (each k h ∙ ap Some place)
 
 module _ (f : ℕ → Option Tile) (Q : ℕ → Type 0) (R : ℕ → TileStream → Type 0) (K : Type 0) (whole : Bool) (len a n : ℕ) (at : ℕ → Option ℕ) where
   pub found_from :
@@ -71,24 +77,12 @@ module _ (f : ℕ → Option Tile) (Q : ℕ → Type 0) (R : ℕ → TileStream 
       → MatchOption r
       (IsTrue whole × (K → (k : ℕ) → IfSome (at k) Q))
       (λ y. (i : ℕ) × (i < len) × (len ≡ i + 1) × (K → IsSomeAnd (at i) (λ x. R x y) × ((k : ℕ) → k < i → IsSomeAnd (at k) Q)))
-      → K → ((x : ℕ) → Q x → located_tile_of (f x) ≡ None) → ((x : ℕ) (y : TileStream) → R x y → located_tile_of (f x) ≡ Some y)
-      → ((k : ℕ) → k < len → at k ≡ Some (a + k * 16)) → len ≤ n → (whole ≡ true → len ≡ n)
+      → K → ((k : ℕ) → Q k → located_tile_of (f (a + k * 16)) ≡ None) → ((k : ℕ) (y : TileStream) → R k y → located_tile_of (f (a + k * 16)) ≡ Some y)
+      → ((k : ℕ) → k < len → at k ≡ Some k) → len ≤ n → (whole ≡ true → len ≡ n)
       → r ≡ located_tile_of (first_taken f a n)
   found_from None (all, passed) keeps no_tile tile reads short full =
       let long : len ≡ n = full all in
-      sym (none_taken f a n (λ k h. no_tile (a + k * 16) (subst (λ o. IfSome o Q) (reads k (omega arith)) (passed keeps k))))
+      sym (none_taken f a n (λ k h. no_tile k (subst (λ o. IfSome o Q) (reads k (omega arith)) (passed keeps k))))
   found_from (Some t) (i, below, last, first) keeps no_tile tile reads short full =
       let (here, before) = first keeps in
-      sym (first_is f a n i t (omega arith) (λ k h. no_tile (a + k * 16) (subst (λ o. IsSomeAnd o Q) (reads k (omega arith)) (before k h))) (tile (a + i * 16) t (subst (λ o. IsSomeAnd o (λ x. R x t)) (reads i below) here)))
-
--- each 16th of the numbers from a to below b
-module _ (a b len long : ℕ) (whole all : Bool) (at each : ℕ → Option ℕ) where
-  pub reads_each :
-      all ≡ whole → len ≤ long → long ≤ len * 16 → len * 16 < long + 16 → ((k : ℕ) → at k ≡ each (k * 16))
-      → long ≤ b - a → (all ≡ true → long ≡ b - a) → ((k : ℕ) → k < long → option_map (λ y. y) (each k) ≡ Some (a + k))
-      → ((k : ℕ) → k < len → at k ≡ Some (a + k * 16)) × (len ≤ (b + 15 - a) / 16) × (whole ≡ true → len ≡ (b + 15 - a) / 16)
-  reads_each same few low high place most full read = (
-    (λ k h. place k ∙ same_some (each (k * 16)) (a + k * 16) (read (k * 16) (omega arith))),
-    omega arith,
-    (λ w. omega (arith, full (same ∙ w))),
-  )
+      sym (first_is f a n i t (omega arith) (λ k h. no_tile k (subst (λ o. IsSomeAnd o Q) (reads k (omega arith)) (before k h))) (tile i t (subst (λ o. IsSomeAnd o (λ x. R x t)) (reads i below) here)))

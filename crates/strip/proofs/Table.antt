@@ -1,6 +1,7 @@
 -- Laws of the table's tiles, and of a strip's. Assumes nothing.
-use Rattle.std.proofs.Common.{◌≡◌, ℕ, zero, suc, ◌+◌, ◌≤◌, ◌<◌, List, [], ◌∷◌, ◌++◌, map, length, get_or, slice_get, Result, Ok, Err, Option, Some, None, option_map, Bool, true, false, cond, refl, sym, ap, ◌∙◌, arith, add-zero, zero-add, length-append, ⊎_elim, ◌≢◌, le-ltb, ne_eqb}
+use Rattle.std.proofs.Common.{◌≡◌, ℕ, zero, suc, ◌+◌, ◌≤◌, ◌<◌, List, [], ◌∷◌, ◌++◌, map, length, get_or, slice_get, Result, Ok, Err, Option, Some, None, option_map, Bool, true, false, cond, refl, sym, ap, ◌∙◌, arith, add-zero, zero-add, length-append, ⊎_elim, ◌≢◌, le-ltb, ne_eqb, ltb, eqb, ◌||◌}
 use Rattle.std.specs.Option.{option_or, option_map_or}
+use Rattle.std.proofs.lemmas.Bool.Decides.{nat_tests}
 use Rattle.refusals.specs.declared.Refusal.{Refusal}
 use Rattle.wrap32.proofs.Laws.{of-cond}
 use Rattle.format.proofs.BitLaws.{le-or-lt}
@@ -110,6 +111,43 @@ module _ (strip : List ℕ) (w h : ℕ) where
   unfolding tiles_of table_tiles
   found_is wide high long = rw (ne_eqb w 0 wide, ne_eqb h 0 high, le-ltb (length strip) 640 long) (table_decides (little32 strip 0) (listed (alone strip w h)))
 
+-- ---- how many tiles there are
+
+one_longer : (o : Option Tile) (r : Option (List Tile)) → length (table_or (and_tile o r) []) ≤ suc (length (table_or r []))
+one_longer (Some t) (Some ts) = omega arith
+one_longer (Some t) None = omega arith
+one_longer None r = omega arith
+
+either_short : (r : Option (List Tile)) (rest : List Tile) → length (table_or r []) ≤ 16 → length rest ≤ 16 → length (table_or r rest) ≤ 16
+either_short (Some ts) rest h k = h
+either_short None rest h k = k
+
+alone_short : (o : Option Tile) → length (listed o) ≤ 16
+alone_short (Some t) = omega arith
+alone_short None = omega arith
+
+few : (n : ℕ) → has_table n ≡ true → n ≤ 16
+few n h = grind (arith, nat_tests)
+
+module _ (strip : List ℕ) (w h : ℕ) where
+  entries_short : (i n : ℕ) → length (table_or (entry_tiles strip w h i n) []) ≤ n
+  unfolding entry_tiles
+  entries_short i zero = omega arith
+  entries_short i (suc n) = omega (arith, one_longer (entry_tile strip w h i) (entry_tiles strip w h (suc i) n), entries_short (suc i) n)
+
+  -- the table lists at most sixteen
+  table_short : (n : ℕ) → length (table_or (cond (has_table n) (entry_tiles strip w h 0 n) None) []) ≤ 16
+  table_short n =
+      of-cond (λ (r : Option (List Tile)). length (table_or r []) ≤ 16) (has_table n) (entry_tiles strip w h 0 n) None
+      (λ t. omega (arith, few n t, entries_short 0 n)) (λ _. omega arith)
+
+  -- a strip has at most sixteen
+  most : length (tiles_of strip w h) ≤ 16
+  unfolding tiles_of
+  most =
+      of-cond (λ (l : List Tile). length l ≤ 16) (eqb w 0 || eqb h 0 || ltb (length strip) 640) [] _ (λ _. omega arith)
+      (λ _. either_short (cond (has_table (little32 strip 0)) (entry_tiles strip w h 0 (little32 strip 0)) None) (listed (alone strip w h)) (table_short (little32 strip 0)) (alone_short (alone strip w h)))
+
 -- ---- the fields of a tile by its number
 
 -- the field of a record that may be missing
@@ -130,3 +168,13 @@ in_located k f (Err r) = 0
 pub field_is : (ts : List Tile) (k f : ℕ) → tile_field ts k f ≡ in_located k f (located_of ts)
 field_is [] k f = fields_in [] k f
 field_is (t ∷ ts) k f = fields_in (t ∷ ts) k f
+
+none_past : (ts : List Tile) (k f : ℕ) → length ts ≤ k → tile_field ts k f ≡ 0
+unfolding fields_at
+none_past [] k f h = refl
+none_past (t ∷ ts) zero f h = absurd (omega arith)
+none_past (t ∷ ts) (suc k) f h = none_past ts k f (omega arith)
+
+-- from the seventeenth on there is no tile
+pub field_past : (strip : List ℕ) (w h k f : ℕ) → 16 ≤ k → tile_field (tiles_of strip w h) k f ≡ 0
+field_past strip w h k f past = none_past (tiles_of strip w h) k f (omega (arith, most strip w h))

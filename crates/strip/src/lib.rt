@@ -1,13 +1,14 @@
 // The stream header and the locator of tiles in a strip: document 01, 'Strip'.
 #![tactic(auto)]
 
-ghost use Rattle.std.specs.Prelude.{◌≡◌, ◌&&◌, ◌+◌, ◌^◌, ◌<◌, ◌≤◌, List, [], ◌∷◌, ◌++◌, MatchOption, IfSome, eqb, length, get_or, slice_get};
+ghost use Rattle.std.specs.Prelude.{⊤, ◌≡◌, ◌&&◌, ◌+◌, ◌^◌, ◌<◌, ◌≤◌, List, [], ◌∷◌, ◌++◌, MatchOption, IfSome, eqb, length, get_or, slice_get};
 ghost use Rattle.format.specs.Strip.{valid_header, magic, sides, marks, payload, unless0, word, entry_start, candidate, entry_tile, alone, listed, tiles_of};
 ghost use Rattle.strip.specs.Answers.{HeaderSays, stream_tile, located_tile_of, placed, listed_of, located_of, table_tiles, stream_fields, tile_field};
 
 use arrayvec::ArrayVec;
 use fields::{Size, Stream};
 use refusals::Refusal;
+use std::alloc::AllocError;
 use std::marker::Model;
 use words::le32;
 
@@ -153,6 +154,18 @@ impl Model for Tiles {
     ghost Value = { List TileStream };
 
     ghost view = { λ t. t.tiles.items };
+}
+
+// A clone never fails, and is the same list.
+impl Clone for Tiles {
+    ghost is_clone = { λ t u. u ≡ t };
+
+    ghost is_infallible = { λ _. ⊤ };
+
+    fn clone(&self) -> Result<Self, AllocError> {
+        let tiles = self.tiles.clone()?;
+        Ok(Self { tiles })
+    }
 }
 
 impl Tiles {
@@ -307,9 +320,9 @@ impl<'a> Frame<'a> {
     {
         let start = self.entry_start(i);
         let end = (start + REACH).min(self.strip.len() - TileStream::HEADER);
-        (start..=end)
-            .step_by(STEP)
-            .find_map(|at| self.candidate(i, at))
+        // By number: `step_by` over a range takes each byte between as a step.
+        let count = (end + STEP).saturating_sub(start) / STEP;
+        (0..count).find_map(|k| self.candidate(i, start + k * STEP))
     }
 
     // The tiles of the table; one failed entry drops all.
@@ -369,10 +382,13 @@ pub fn tile_count(strip: &[u8], full_w: usize, full_h: usize) -> usize
 }
 
 // Field 0 to 5 of a tile from 0; one that isn't there gives 0.
-#[tactic(auto, using(crate::proofs::Table::field_is))]
+#[tactic(auto, using(crate::proofs::Table::field_is, crate::proofs::Table::field_past))]
 pub fn tile_field(strip: &[u8], full_w: usize, full_h: usize, ordinal: usize, field: usize) -> usize
     ensures { result ≡ tile_field (tiles_of strip.now full_w full_h) ordinal field }
 {
+    if TILES <= ordinal {
+        return 0;
+    }
     match find_streams(strip, full_w, full_h) {
         Ok(tiles) => tiles.get(ordinal).map_or(0, |tile| tile.field(field)),
         Err(_) => 0,
