@@ -1,10 +1,11 @@
 -- What a finished record is: how long, row by row, and where nothing is done to it. Assumes nothing.
-use Rattle.std.proofs.Common.{◌≡◌, refl, sym, ap, ◌∙◌, Bool, true, false, cond, List, ℕ, suc, ◌+◌, ◌-◌, ◌*◌, ◌≤◌, ◌<◌, mul-le-mul_right, arith, ltb-true, ltb-false, ltb, ℤ, pos, length, get_or}
+use Rattle.std.proofs.Common.{◌≡◌, refl, sym, ap, ◌∙◌, Bool, true, false, cond, List, ℕ, suc, ◌+◌, ◌-◌, ◌*◌, ◌≤◌, ◌<◌, mul-le-mul_right, zero-mul, arith, ltb-true, ltb-false, ltb, ℤ, pos, length, get_or}
 use Rattle.wrap32.specs.Arithmetic.{wrapping}
 use Rattle.wrap32.proofs.Laws.{of-cond}
 use Rattle.wrap32.specs.Edge.{edge_detail}
 use Rattle.lists.specs.Lists.{part}
 use Rattle.lists.proofs.Tab.{length-tab, length-put, tab-same, tab-part, get_d_part}
+use Rattle.lists.proofs.Put.{put-start}
 use Rattle.lists.proofs.Part.{part-put-within, part-put-below, part-put-above}
 use Rattle.format.specs.Table.{ends}
 use Rattle.lifting.specs.Lift.{edge_at, edge_row, sum_at, sum_row}
@@ -16,6 +17,15 @@ use Rattle.records.specs.declared.Finish.TheVariants.{Sums, Edges, Nothing}
 pub finished-none : (cols i : ℕ) (l : List ℤ) → finished_by Nothing cols i l ≡ l
 unfolding finished_by
 finished-none cols i l = refl
+
+-- where no row gets E, nothing is done
+pub finished-no_rows : (e : EdgeRows) (cols i : ℕ) (l : List ℤ) → e.count ≡ 0 → finished_by (Edges e) cols i l ≡ l
+unfolding finished_by
+finished-no_rows e cols i l none =
+    let a = e.first * cols in
+    let n : e.count * cols ≡ 0 = ap (λ (x : ℕ). x * cols) none ∙ zero-mul cols in
+    rw n
+    (of-cond (λ (t : List ℤ). t ≡ l) (ends i e.last) _ _ (λ _. sym (put-start l a (edge_at e.odd (part l a 0)))) (λ _. refl))
 
 pub finished-sums : (cols i : ℕ) (l : List ℤ) → finished_by Sums cols i l ≡ sum_row (length l) l
 unfolding finished_by
