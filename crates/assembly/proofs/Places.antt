@@ -68,7 +68,7 @@ work-units w H even =
 
 -- ---- packet p, read off the work slice by its shape and its place
 module _ (w H : ℕ) (work : List ℤ) (t : Tile w H work) (p : ℕ) (h : p < 13) (r : Located) where
-  module _ (ez : r.shape ≡ shape_in w H p) (ea : r.range.start ≡ packet_at (unit_of w H) (group_in p) (colour_in p)) (ee : r.range.end ≡ r.range.start + r.shape.records * (r.shape.rows * r.shape.cols)) where
+  module _ (ez : r.shape ≡ shape_in w H p) (ea : r.start ≡ packet_at (unit_of w H) (group_in p) (colour_in p)) (ee : r.end ≡ r.start + r.shape.records * (r.shape.rows * r.shape.cols)) where
     abbrev count : ℕ
     count = r.shape.records * (r.shape.rows * r.shape.cols)
 
@@ -80,16 +80,16 @@ module _ (w H : ℕ) (work : List ℤ) (t : Tile w H work) (p : ℕ) (h : p < 13
         let g = group_in p in
         (λ i. (ez i).records * ((ez i).rows * (ez i).cols)) ∙ sym (mul_assoc (records H) (components g * multiplier g) (columns w g))
 
-    pub in-fits : r.range.end ≤ length work
+    pub in-fits : r.end ≤ length work
     in-fits = omega (arith, ea, ee, count-is, packet-within w (records H) t.even (group_in p) (colour_in p), t.long)
 
-    pub in-part : take (r.range.end - r.range.start) (drop r.range.start work) ≡ numbers_in w H work p
-    in-part = let e : r.range.end - r.range.start ≡ packet_rows (group_in p) (records H) * columns w (group_in p) = omega (arith, ee, count-is) in λ i. take (e i) (drop (ea i) work)
+    pub in-part : take (r.end - r.start) (drop r.start work) ≡ numbers_in w H work p
+    in-part = let e : r.end - r.start ≡ packet_rows (group_in p) (records H) * columns w (group_in p) = omega (arith, ee, count-is) in λ i. take (e i) (drop (ea i) work)
 
-    pub in-length : length (take (r.range.end - r.range.start) (drop r.range.start work)) ≡ count
+    pub in-length : length (take (r.end - r.start) (drop r.start work)) ≡ count
     in-length =
-        let e : r.range.end - r.range.start ≡ count = omega (arith, ee) in
-        ap (λ (n : ℕ). length (take n (drop r.range.start work))) e ∙ length_part work r.range.start count (omega (arith, ee, in-fits))
+        let e : r.end - r.start ≡ count = omega (arith, ee) in
+        ap (λ (n : ℕ). length (take n (drop r.start work))) e ∙ length_part work r.start count (omega (arith, ee, in-fits))
 
-    pub in_small : Small (line (take (r.range.end - r.range.start) (drop r.range.start work)))
+    pub in_small : Small (line (take (r.end - r.start) (drop r.start work)))
     in_small = rw in-part (t.small (group_in p) (colour_in p) (present-in p h))

@@ -41,7 +41,7 @@ impl<'a> Work<'a> {
         };
         let l = locate(size, p);
         Packet {
-            numbers: &self.numbers[l.range],
+            numbers: &self.numbers[l.start..l.end],
             shape: l.shape,
         }
     }

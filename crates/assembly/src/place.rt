@@ -5,7 +5,6 @@ ghost use Rattle.assembly.specs.Tile.{unit_of, packet_at, shape_of, group_in, co
 
 use crate::packet::Shape;
 use fields::{Colour, Group, Size};
-use std::ops::Range;
 
 // The shape of the packets of a group: components, rows and columns of their records.
 pub fn shape(group: Group, w: usize, records: usize) -> Shape
@@ -35,16 +34,17 @@ pub fn packet_at(group: Group, colour: Colour, unit: usize) -> usize
     }
 }
 
-// A packet in the work slice: its shape, and the places of its numbers.
-#[derive(Drop)]
+// A packet in the work slice: its shape, its first number, and where it ends.
+#[derive(Clone, Copy)]
 pub struct Located {
     pub shape: Shape,
-    pub range: Range<usize>,
+    pub start: usize,
+    pub end: usize,
 }
 
 // Packet p of a tile of a coded size.
 pub fn locate(size: Size, p: usize) -> Located
-    ensures { (result.shape ≡ shape_in size.width size.height p) × (result.range.start ≡ packet_at (unit_of size.width size.height) (group_in p) (colour_in p)) × (result.range.end ≡ result.range.start + result.shape.records * (result.shape.rows * result.shape.cols)) }
+    ensures { (result.shape ≡ shape_in size.width size.height p) × (result.start ≡ packet_at (unit_of size.width size.height) (group_in p) (colour_in p)) × (result.end ≡ result.start + result.shape.records * (result.shape.rows * result.shape.cols)) }
 {
     let records = size.stripes() + 1;
     let group = Group::numbered(p / 3);
@@ -52,6 +52,7 @@ pub fn locate(size: Size, p: usize) -> Located
     let start = packet_at(group, Colour::indexed(p % 3), records * (size.width / 16));
     Located {
         shape: z,
-        range: start..start + z.records * (z.rows * z.cols),
+        start,
+        end: start + z.records * (z.rows * z.cols),
     }
 }
