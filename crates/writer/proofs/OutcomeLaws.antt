@@ -8,9 +8,6 @@ use Rattle.format.proofs.TurnLaws.{stops}
 use Rattle.format.proofs.Accepted.{lent-parts}
 use Rattle.writing.proofs.Checked.{sides}
 use Rattle.writer.specs.Write.{Fit, answer_by, stream_by, WriteOutcome}
-use Rattle.refusals.specs.declared.Refusal.{Refusal}
-use Rattle.refusals.specs.Number.{number_of}
-use Rattle.refusals.proofs.Laws.{not_zero}
 
 -- what a call that is not refused has
 pub fit : (w H green_n red_n blue_n work_n : ℕ) → call_refusal w H green_n red_n blue_n work_n ≡ 0 → Fit w H green_n red_n blue_n
@@ -27,18 +24,15 @@ module _ (w H : ℕ) (p : Colour → List ℤ) (work : List ℤ) (stream : List 
   call = call_refusal w H (length (p green)) (length (p red)) (length (p blue)) (length work)
 
   -- refused before anything is changed
-  module _ (e : Refusal) (is : number_of e ≡ call) where
-    some : call ≡ 0 → ⊥
-    some z = not_zero e (is ∙ z)
-
+  module _ (some : call ≡ 0 → ⊥) where
     same : write_refusal w H p work stream ≡ call
     unfolding write_refusal
     same = stops call _ some
 
-    pub call-refused : (r : Written) → r ≡ record { refusal = number_of e; length = 0 } → WriteOutcome w H p work stream r work stream
+    pub call-refused : (r : Written) → r ≡ record { refusal = call; length = 0 } → WriteOutcome w H p work stream r work stream
     unfolding written_of work_left stream_left
-    call-refused r t = record {
-      answer = t ∙ rw (same, ne_eqb call 0 some, is) refl;
+    call-refused r e = record {
+      answer = e ∙ rw (same, ne_eqb call 0 some) refl;
       works = rw (ne_eqb call 0 some) refl;
       streams = rw (same, ne_eqb call 0 some) refl;
     }

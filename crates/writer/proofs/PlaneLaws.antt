@@ -6,9 +6,7 @@ use Rattle.format.specs.Sizes.{Colour, green, red, blue, index, l1, l2, l3, Grou
 use Rattle.format.specs.Recovery.{recover}
 use Rattle.format.specs.Numbers.{packet_rows, packet_numbers}
 use Rattle.format.specs.Writing.{records, numbers_refusal, planes_refusal}
-use Rattle.refusals.specs.declared.Refusal.{Refusal}
-use Rattle.refusals.specs.Number.{number_of}
-use Rattle.refusals.proofs.Laws.{decides}
+use Rattle.format.proofs.TurnLaws.{stops}
 use Rattle.format.proofs.Exact.{tall-of}
 use Rattle.recovery.specs.Recovered.{Room, Recovered}
 use Rattle.assembly.specs.Tile.{Holds, packet_in}
@@ -66,9 +64,9 @@ module _ (w H green_n red_n blue_n : ℕ) (f : Fit w H green_n red_n blue_n) whe
 
 -- ---- what refuses the planes
 module _ (w H n : ℕ) (p : Colour → List ℤ) where
-  pub numbers-refused : (e : Refusal) → number_of e ≡ numbers_refusal (guarded H) (stripes H) w p → number_of e ≡ planes_refusal w H p n
+  pub numbers-refused : (k : ℕ) → k ≡ numbers_refusal (guarded H) (stripes H) w p → (k ≡ 0 → ⊥) → k ≡ planes_refusal w H p n
   unfolding planes_refusal
-  numbers-refused e is = decides e (numbers_refusal (guarded H) (stripes H) w p) _ is
+  numbers-refused k e some = e ∙ sym (stops (numbers_refusal (guarded H) (stripes H) w p) _ (λ z. some (e ∙ z)))
 
   pub numbers-fine : numbers_refusal (guarded H) (stripes H) w p ≡ 0 → coefs_refusal w H (recover w H p) n ≡ planes_refusal w H p n
   unfolding planes_refusal

@@ -1,11 +1,11 @@
 -- The answer of coefficients that are written, and the stream after it. Assumes nothing.
-use Rattle.std.proofs.Common.{Result, Ok, Err, ap, ◌≡◌, refl, List, ◌++◌, ℕ, ◌≤◌, ◌<◌, arith, length, drop, ne_eqb, lt-ltb, le-ltb}
+use Rattle.std.proofs.Common.{Result, Ok, Err, ap, ◌≡◌, refl, sym, ◌∙◌, List, ◌++◌, ℕ, ◌≤◌, ◌<◌, arith, length, drop, ne_eqb, lt-ltb, le-ltb}
 use Rattle.format.specs.Coefficients.{Coefs}
 use Rattle.format.specs.Writing.{Written, lengths_refusal, stream_length, stream_of}
+use Rattle.format.proofs.TurnLaws.{stops}
 use Rattle.std.specs.Result.{IsErrAnd}
 use Rattle.refusals.specs.declared.Refusal.{Refusal}
 use Rattle.refusals.specs.Number.{number_of}
-use Rattle.refusals.proofs.Laws.{not_zero, decides}
 use Rattle.writer.specs.Write.{told, coefs_refusal, answer_by, stream_by}
 
 -- what the exit of a `?` tells
@@ -13,16 +13,16 @@ pub told_exit : (r : Result ℕ Refusal) (e : Refusal) → IsErrAnd r (λ d. d �
 told_exit (Ok n) e h = elim h [ ]
 told_exit (Err d) e h = ap (λ (x : Refusal). record { refusal = number_of x; length = 0 }) h
 
--- a refusal of any kind
-pub refused-answer : (e : Refusal) (r long : ℕ) → number_of e ≡ r → ◌≡◌ {A = Written} (record { refusal = number_of e; length = 0 }) (answer_by r long)
-refused-answer e r long is = rw (← is, ne_eqb (number_of e) 0 (not_zero e)) refl
+-- a refusal k of any kind
+pub refused-answer : (k r long : ℕ) → (k ≡ 0 → ⊥) → k ≡ r → ◌≡◌ {A = Written} (record { refusal = k; length = 0 }) (answer_by r long)
+refused-answer k r long some e = rw (← e, ne_eqb k 0 some) refl
 
-pub refused-stream : (e : Refusal) (r w H : ℕ) (v : Coefs) (stream : List ℕ) → number_of e ≡ r → stream ≡ stream_by r w H v stream
-refused-stream e r w H v stream is = rw (← is, ne_eqb (number_of e) 0 (not_zero e)) refl
+pub refused-stream : (k r w H : ℕ) (v : Coefs) (stream : List ℕ) → (k ≡ 0 → ⊥) → k ≡ r → stream ≡ stream_by r w H v stream
+refused-stream k r w H v stream some e = rw (← e, ne_eqb k 0 some) refl
 
 module _ (w H n : ℕ) (v : Coefs) where
-  pub too_long : (e : Refusal) → number_of e ≡ lengths_refusal w H v → number_of e ≡ coefs_refusal w H v n
-  too_long e is = decides e (lengths_refusal w H v) _ is
+  pub too_long : (k : ℕ) → k ≡ lengths_refusal w H v → (k ≡ 0 → ⊥) → k ≡ coefs_refusal w H v n
+  too_long k e some = e ∙ sym (stops (lengths_refusal w H v) _ (λ z. some (e ∙ z)))
 
   pub no_room : lengths_refusal w H v ≡ 0 → n < stream_length w H v → 4 ≡ coefs_refusal w H v n
   no_room e b = rw (e, lt-ltb n (stream_length w H v) b) refl

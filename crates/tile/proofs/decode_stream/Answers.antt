@@ -1,24 +1,28 @@
 -- `tile::decode_stream` meets its contract. Assumes nothing.
-use Rattle.std.proofs.Common.{sym, ap, arith}
+use Rattle.std.proofs.Common.{◌≡◌, sym, ap, ◌∙◌, arith}
 use Rattle.format.specs.Sizes.{green, red, blue}
 use Rattle.format.specs.Tile.{Lengths}
 use Rattle.format.proofs.Accepted.{accepted}
+use Rattle.refusals.proofs.Laws.{not_zero}
 use Rattle.packets.proofs.LengthLaws.{needed_is}
+use Rattle.tile.specs.Decode.{refusal_of}
 use Rattle.tile.proofs.PacketLaws.{tile-below}
-use Rattle.tile.proofs.AfterLaws.{refused-answer, refused-plane, refused-work, accepted-answer, accepted-plane, accepted-work}
+use Rattle.tile.proofs.AfterLaws.{refused-exit, refused-plane, refused-work, accepted-answer, accepted-plane, accepted-work}
 use Rattle.tile.proofs.decode_stream.Goals as goal
 
 pub returns-in_err-accepted : goal.returns-in_err-accepted
 returns-in_err-accepted c =
     let a = c.args in
     let s = a.stream.now in
+    let k = refusal_of s a.green.now a.red.now a.blue.now a.work.now in
     let is = c.in_err-accepted.ensures.refusal in
+    let some : k ≡ 0 → ⊥ = λ z. not_zero _ (is ∙ z) in
     record {
-      answer = refused-answer s _ _ is _ c.from_residual.ensures.1;
-      greens = refused-plane s _ _ is green a.green.now;
-      reds = refused-plane s _ _ is red a.red.now;
-      blues = refused-plane s _ _ is blue a.blue.now;
-      works = refused-work s _ _ is a.work.now;
+      answer = refused-exit s k some _ _ is c.from_residual.ensures.1;
+      greens = refused-plane s k some green a.green.now;
+      reds = refused-plane s k some red a.red.now;
+      blues = refused-plane s k some blue a.blue.now;
+      works = refused-work s k some a.work.now;
     }
 
 pub decode_accepted-counts-requires : goal.decode_accepted-counts-requires

@@ -6,6 +6,7 @@ use Rattle.format.specs.Tile.{slice}
 use Rattle.format.specs.Writing.{numbers_refusal, stream_length}
 use Rattle.passes.specs.declared.Plan.{Plan}
 use Rattle.recovery.specs.Recovered.{Room, Recovered}
+use Rattle.refusals.proofs.Laws.{not_zero}
 use Rattle.writer.specs.Write.{plan_of, answer_by, stream_by}
 use Rattle.writer.proofs.WriteLaws.{told_exit, refused-answer, refused-stream}
 use Rattle.writer.proofs.PlaneLaws.{plan-room, holds, filled, numbers-refused, numbers-fine}
@@ -43,10 +44,11 @@ pub returns-in_err-recover : goal.returns-in_err-recover
 returns-in_err-recover c =
     let m = (goal.at.returns-in_err-recover c).After-recover in
     let a = c.args in
-    let e = numbers-refused a.size.width a.size.height (length a.stream.now) (lent m) _ (c.in_err-recover.ensures.value ∙ numbers m) in record {
-      value = told_exit _ _ c.from_residual.ensures.1 ∙ refused-answer _ _ _ e;
+    let some = not_zero c.in_err-recover.field-0.0 in
+    let e = numbers-refused a.size.width a.size.height (length a.stream.now) (lent m) _ (c.in_err-recover.ensures.value ∙ numbers m) some in record {
+      value = told_exit _ _ c.from_residual.ensures.1 ∙ refused-answer _ _ _ some e;
       same_length = c.recover.ensures.same_length;
-      stream_after = refused-stream _ _ a.size.width a.size.height _ a.stream.now e;
+      stream_after = refused-stream _ _ a.size.width a.size.height _ a.stream.now some e;
     }
 
 pub write_coefficients-requires : goal.write_coefficients-requires

@@ -1,7 +1,8 @@
 -- `writer::write_stream` meets its contract. Assumes nothing.
-use Rattle.std.proofs.Common.{◌≡◌, sym, ◌∙◌, length, arith, length-take-le}
+use Rattle.std.proofs.Common.{◌≡◌, sym, ap, ◌∙◌, ℕ, length, arith, length-take-le}
 use Rattle.format.specs.Tile.{slice}
 use Rattle.format.specs.Writing.{call_refusal}
+use Rattle.refusals.proofs.Laws.{not_zero}
 use Rattle.writer.proofs.OutcomeLaws.{fit, work-lent, call-refused, call-done}
 use Rattle.writer.proofs.WriteLaws.{told_exit}
 use Rattle.writer.proofs.write_stream.Goals.{In_ok-size}
@@ -10,7 +11,9 @@ use Rattle.writer.proofs.write_stream.Goals as goal
 pub returns-in_err-size : goal.returns-in_err-size
 returns-in_err-size c =
     let a = c.args in
-    call-refused a.width a.height (slice a.green.now a.red.now a.blue.now) a.work.now a.stream.now _ c.in_err-size.ensures.refusal _ (told_exit _ _ c.from_residual.ensures.1)
+    let is = c.in_err-size.ensures.refusal in
+    call-refused a.width a.height (slice a.green.now a.red.now a.blue.now) a.work.now a.stream.now (λ z. not_zero _ (is ∙ z)) _
+    (told_exit _ _ c.from_residual.ensures.1 ∙ ap (λ (n : ℕ). record { refusal = n; length = 0 }) is)
 
 -- the size that was checked
 called : (c : In_ok-size) → let s = c.in_ok-size.size in let a = c.args in call_refusal s.width s.height (length a.green.now) (length a.red.now) (length a.blue.now) (length a.work.now) ≡ 0
