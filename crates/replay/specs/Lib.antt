@@ -1,3 +1,4 @@
+pub mod Heads
 pub mod Kinds
 pub mod Numbers
 pub mod Tally

@@ -12,14 +12,14 @@ mod tiles;
 mod vectors;
 mod written;
 
-ghost use Rattle.std.specs.Prelude.{◌≡◌, ◌<◌, ◌≤◌, length};
+ghost use Rattle.std.specs.Prelude.{◌≡◌, ◌<◌, length};
 ghost use Rattle.replay.specs.Tally.{total, counts_of};
 
-use kind::{Case, Kind, Words};
+use kind::{Case, Kind};
 use std::fmt::Display;
 use std::io;
 use std::io::Read;
-use vectors::{next_word, read};
+use vectors::{next_word, read, read_words};
 
 // The kinds, and the cases of none.
 const PLACES: usize = 8;
@@ -29,17 +29,6 @@ const PLACES: usize = 8;
 struct Count {
     right: usize,
     wrong: usize,
-}
-
-// Reads the words that lead a case, so many; none where the input ends before.
-fn read_words<R: Read>(source: &mut R, n: usize) -> Option<Words>
-    requires { n ≤ 11 }
-{
-    let mut words = [0u32; 11];
-    for word in &mut words[..n] {
-        *word = next_word(source)?;
-    }
-    Some(words)
 }
 
 // Whether the next case is whole and comes out as it should. There is room for an input of one byte more than `tiles` takes, in arrays, so that

@@ -1,14 +1,36 @@
 // What the kinds of cases share: words and numbers of the input, and the comparison with lists of numbers.
-ghost use Rattle.std.specs.Prelude.{◌≡◌, ◌+◌, ◌*◌, ◌<◌, ◌≤◌, ◌%◌, length, true};
+ghost use Rattle.std.specs.Prelude.{◌≡◌, ◌+◌, ◌*◌, ◌<◌, ◌≤◌, ◌%◌, length, true, IfSome};
 ghost use Rattle.std.specs.Io.KnownBytes.{Consumes};
 ghost use Rattle.lists.specs.Lists.{tab};
+ghost use Rattle.format.specs.Bits.{little32};
 ghost use Rattle.replay.specs.Numbers.{Tells, word_at, always};
+ghost use Rattle.replay.specs.Heads.{Takes, head_words};
 
+use crate::kind::Words;
 use std::io::Read;
 use words::le32;
 
 // What the lent slices hold before a call, and where nothing is to be written also after it.
 pub const PATTERN: i32 = 77;
+
+// The little-endian word at a byte.
+fn word(b: &[u8], at: usize) -> u32
+    requires { at + 4 ≤ length b.now }
+    ensures { result ≡ little32 b.now at }
+{
+    le32(b, at) as u32
+}
+
+// The words of a head.
+fn words_of(head: &[u8; 44]) -> Words
+    ensures { result ≡ head_words head.now }
+{
+    let mut words = [0u32; 11];
+    for (i, w) in words.iter_mut().enumerate() {
+        *w = word(head, 4 * i);
+    }
+    words
+}
 
 // A size of a case, cut to a byte.
 pub fn small(word: u32) -> u8
@@ -69,10 +91,24 @@ pub fn read<R: Read>(source: &mut R, b: &mut [u8]) -> bool
 }
 
 // The next little-endian word of the input; none where it ends before.
-pub fn next_word<R: Read>(source: &mut R) -> Option<u32> {
+pub fn next_word<R: Read>(source: &mut R) -> Option<u32>
+    ensures { IfSome result (λ w. Takes (R.remaining source.old) (R.remaining source.new) 4 (λ b. w ≡ little32 b 0)) }
+{
     let mut bytes = [0u8; 4];
     if !read(source, &mut bytes) {
         return None;
     }
-    Some(u32::from_le_bytes(bytes))
+    Some(word(&bytes, 0))
+}
+
+// Reads the words that lead a case, so many, by one read; none where the input ends before.
+pub fn read_words<R: Read>(source: &mut R, n: usize) -> Option<Words>
+    requires { n ≤ 11 }
+    ensures { IfSome result (λ words. Takes (R.remaining source.old) (R.remaining source.new) (4 * n) (λ b. words ≡ head_words b)) }
+{
+    let mut head = [0u8; 44];
+    if !read(source, &mut head[..4 * n]) {
+        return None;
+    }
+    Some(words_of(&head))
 }
