@@ -84,14 +84,15 @@ fn put_tiles(text: &mut Text, tiles: &[TileStream])
     }
 }
 
-// The listing of a strip in a frame.
+// The listing of a strip in a frame. (The tiles are matched by reference: a move would copy their sixteen places.)
 fn put_listing(text: &mut Text, strip: &[u8], full_w: usize, full_h: usize)
     requires { text.old.len + 2043 ≤ length text.old.out.now }
     ensures value { Appends text.old text.new (listing (tiles_of strip.now full_w full_h)) }
     ensures upper_bound { text.new.len ≤ text.old.len + 2043 }
 {
     text.push(b"tiles ");
-    match strip::find_streams(strip, full_w, full_h) {
+    let found = strip::find_streams(strip, full_w, full_h);
+    match &found {
         Ok(tiles) => {
             put_field(text, tiles.len(), b'\n');
             put_tiles(text, tiles.as_slice());
