@@ -1,7 +1,8 @@
 // The coefficients of a tile from its planes, in the work slice: document 01, 'Recovery'. Levels are undone in its last quarter, the scratch.
 #![tactic(auto)]
 
-ghost use Rattle.std.specs.Prelude.{◌≡◌, false, cond, ℕ, ◌+◌, ◌*◌, ◌/◌, ◌^◌, ◌≤◌, ◌<◌, length};
+ghost use Rattle.std.specs.Prelude.{◌≡◌, false, cond, ℕ, ◌+◌, ◌*◌, ◌/◌, ◌^◌, ◌≤◌, ◌<◌, length, take};
+ghost use Rattle.lists.specs.Lists.{put_at};
 ghost use Rattle.format.specs.Lifting.{Shape};
 ghost use Rattle.format.specs.Refusals.{each};
 ghost use Rattle.refusals.specs.Number.{code_of};
@@ -197,6 +198,16 @@ fn green_back(work: &mut [i32], z: Plan, plane: &[i32]) -> Result<(), Refusal>
     index_back(work, Block { z, at: 0 }, INDEX * u, false)
 }
 
+// The first n numbers of a plane, to `to`: one by one, since `copy_from_slice` would have the library for C call `memmove`.
+fn copy(work: &mut [i32], to: usize, plane: &[i32], n: usize)
+    requires { (n ≤ length plane.now) × (to + n ≤ length work.old) }
+    ensures { work.new ≡ put_at work.old to (take n plane.now) }
+{
+    for k in 0..n {
+        work[to + k] = plane[k];
+    }
+}
+
 // Red's coefficients, or blue's, in block b.
 fn colour_back(work: &mut [i32], b: Block, plane: &[i32]) -> Result<(), Refusal>
     requires { Front b.z b.at (length work.old) × (plane_rows b.z.guarded b.z.n * (b.z.w / 2) ≤ length plane.now) }
@@ -204,7 +215,7 @@ fn colour_back(work: &mut [i32], b: Block, plane: &[i32]) -> Result<(), Refusal>
 {
     let Block { z, at } = b;
     let n = rows_of(z.n, z.guarded) * (z.w / 2);
-    work[at..at + n].copy_from_slice(&plane[..n]);
+    copy(work, at, plane, n);
     index_back(work, b, at, true)
 }
 

@@ -1,5 +1,6 @@
 -- Rows that go to their places one after the other, none from where one goes to. Assumes nothing.
-use Rattle.std.proofs.Common.{◌≡◌, refl, sym, ap, ◌∙◌, List, ◌++◌, ℕ, ◌+◌, ◌-◌, ◌*◌, ◌≤◌, ◌<◌, arith, ℤ, length, take, drop, length-take-le, take_at, drop_at}
+use Rattle.std.proofs.Common.{◌≡◌, refl, sym, ap, ◌∙◌, List, ◌++◌, ℕ, ◌+◌, ◌-◌, ◌*◌, ◌≤◌, ◌<◌, arith, ℤ, length, take, drop, append_assoc, length-take-le, take_at, drop_at, drop-drop}
+use lib.Seq.{paste}
 use Rattle.lists.specs.Lists.{part, put_at, laid}
 use Rattle.lists.proofs.Tab.{length_part}
 use Rattle.lists.proofs.Part.{part-put-in}
@@ -10,6 +11,11 @@ use Rattle.returning.specs.Return.{Movable}
 module _ (l m : List ℤ) (a to c : ℕ) (stands : a + c ≤ length l) (room : to + c ≤ length l) where
   many : length (part l a c) ≡ c
   many = length_part l a c stands
+
+  pub copied-is : m ≡ paste l to (drop a l) (a + c - a) → m ≡ put_at l to (part l a c)
+  copied-is copied =
+      let n : a + c - a ≡ c = omega arith in
+      copied ∙ ap (paste l to (drop a l)) n ∙ rw (append_assoc, many, drop-drop c to l) (ap (λ (i : ℕ). take to l ++ (part l a c ++ drop i l)) (omega arith))
 
   module _ (put : m ≡ put_at l to (part l a c)) where
     there : to + c - to ≡ c

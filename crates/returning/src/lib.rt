@@ -3,7 +3,7 @@
 #![tactic(auto)]
 
 ghost use Rattle.std.specs.Prelude.{◌≡◌, false, MatchOption, ℕ, ◌+◌, ◌*◌, ◌≤◌, ◌<◌, length};
-ghost use Rattle.lists.specs.Lists.{part, put_at, Apart};
+ghost use Rattle.lists.specs.Lists.{part, put_at};
 ghost use Rattle.lifting.specs.Lift.{at};
 ghost use Rattle.format.specs.Refusals.{each};
 ghost use Rattle.refusals.specs.Number.{code_of};
@@ -154,19 +154,13 @@ struct Rows {
 }
 
 impl Rows {
-    // Row y, copied to `to`, which is apart from it: by two parts of the slice, since `copy_within` would have the library for C call `memmove`.
+    // Row y, copied to `to`.
     fn copy(self, work: &mut [i32], y: usize, to: usize)
-        requires { (self.from + y * self.t + self.c ≤ length work.old) × (to + self.c ≤ length work.old) × Apart (self.from + y * self.t) self.c to self.c }
+        requires { (self.from + y * self.t + self.c ≤ length work.old) × (to + self.c ≤ length work.old) }
         ensures { work.new ≡ put_at work.old to (part work.old (self.from + y * self.t) self.c) }
     {
         let a = self.from + y * self.t;
-        if a < to {
-            let (before, after) = work.split_at_mut(to);
-            after[..self.c].copy_from_slice(&before[a..a + self.c]);
-        } else {
-            let (before, after) = work.split_at_mut(a);
-            before[to..to + self.c].copy_from_slice(&after[..self.c]);
-        }
+        work.copy_within(a..a + self.c, to);
     }
 }
 

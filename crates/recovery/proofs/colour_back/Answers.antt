@@ -1,12 +1,10 @@
 -- `recovery::colour_back` meets its contract. Assumes nothing.
-use Rattle.std.proofs.Common.{arith, ◌≡◌, ap, ◌∙◌, ℕ, ◌+◌, ◌-◌, ◌*◌, ◌/◌, ◌≤◌, length, take, length-take}
-use borrow.Rule.Slice.PartMut.{put_mid}
+use Rattle.std.proofs.Common.{arith, ◌≡◌, ap, ◌∙◌, ℕ, ◌+◌, ◌*◌, ◌/◌, ◌≤◌, length, take}
 use Rattle.lists.specs.Lists.{put_at}
-use Rattle.lists.proofs.Tab.{part-back}
 use Rattle.format.specs.Sizes.{plane_rows}
 use Rattle.format.specs.Recovery.{read_plane}
 use Rattle.recovery.proofs.PlaneLaws.{plane-in, copied, copied-long, copied-out}
-use Rattle.recovery.proofs.colour_back.Goals.{After-copy_from_slice, After-rows_of}
+use Rattle.recovery.proofs.colour_back.Goals.{After-copy, After-rows_of}
 use Rattle.recovery.proofs.colour_back.Goals as goal
 
 -- the numbers of the plane
@@ -17,22 +15,17 @@ many c = ap (λ (n : ℕ). n * (c.args.b.z.w / 2)) c.rows_of.ensures.0
 room : (c : After-rows_of) → c.args.b.at + c.rows_of.result * (c.args.b.z.w / 2) ≤ length c.args.work.now
 room c = omega (arith, many c, plane-in c.args.b.z c.args.b.at _ c.requires.0, c.requires.0.front, c.requires.0.room)
 
-pub slice_bounds-copy_from_slice-end : goal.slice_bounds-copy_from_slice-end
-slice_bounds-copy_from_slice-end c = room (goal.at.slice_bounds-copy_from_slice-end c).After-rows_of
+pub copy-requires : goal.copy-requires
+copy-requires c = let d = (goal.at.copy-requires c).After-rows_of in (omega (arith, many d, c.requires.1), room d)
 
--- they stand in the block
-made : (c : After-copy_from_slice) → let s = c.args in let z = s.b.z in let n = c.rows_of.result * (z.w / 2) in
-    put_mid s.b.at (s.b.at + n - s.b.at) s.work.now c.copy_from_slice.new.self ≡ put_at s.work.now s.b.at (take (plane_rows z.guarded z.n * (z.w / 2)) s.plane.now)
-made c =
-    let s = c.args in
-    let z = s.b.z in
-    let m = many (goal.at.After-copy_from_slice c).After-rows_of in
-    let t : c.copy_from_slice.new.self ≡ take (plane_rows z.guarded z.n * (z.w / 2)) s.plane.now = c.copy_from_slice.ensures.after ∙ ap (λ (n : ℕ). take n s.plane.now) m in
-    part-back s.work.now _ _ s.b.at _ t (simp length-take (omega (arith, m, c.requires.1)))
+-- the numbers of the plane stand in the block
+made : (c : After-copy) → let s = c.args in let z = s.b.z in
+    c.copy.new.work ≡ put_at s.work.now s.b.at (take (plane_rows z.guarded z.n * (z.w / 2)) s.plane.now)
+made c = c.copy.ensures ∙ ap (λ (n : ℕ). put_at c.args.work.now c.args.b.at (take n c.args.plane.now)) (many (goal.at.After-copy c).After-rows_of)
 
 pub returns : goal.returns
 returns c =
-    let d = (goal.at.returns c).After-copy_from_slice in
+    let d = (goal.at.returns c).After-copy in
     let z = c.args.b.z in
     let p = c.args.b.at in
     let k = c.requires.0 in
