@@ -1,26 +1,26 @@
 -- Laws of the search for a tile: offset 512, the candidates in turn. Assumes nothing.
-use Rattle.std.proofs.Common.{◌≡◌, ℕ, zero, suc, ◌+◌, ◌-◌, ◌*◌, ◌≤◌, ◌<◌, List, [], ◌∷◌, Option, Some, None, Bool, true, false, cond, ◌&&◌, length, drop, leb, refl, arith, sym, ap, subst, MatchOption, IfSome, IsSomeAnd, IsTrue, option_map, option_and_then, ◌∙◌, le-leb, eqb}
+use Rattle.std.proofs.Common.{◌≡◌, ℕ, zero, suc, ◌+◌, ◌-◌, ◌*◌, ◌≤◌, ◌<◌, List, Option, Some, None, Bool, true, false, cond, ◌&&◌, length, drop, leb, refl, arith, sym, ap, subst, MatchOption, IfSome, IsSomeAnd, IsTrue, option_map, option_and_then, ◌∙◌, le-leb, eqb}
 use native.Mathlib.Numerals.{unary_clauses}
-use Rattle.format.specs.Strip.{Tile, only_if, tile_at, valid_header, payload, alone, listed, or_else, first_taken}
+use Rattle.format.specs.Strip.{Tile, only_if, tile_at, valid_header, payload, alone, or_else, first_taken}
 use Rattle.strip.specs.declared.TileStream.{TileStream}
-use Rattle.strip.specs.Answers.{stream_tile, stream_of, located_tile_of, listed_of}
+use Rattle.strip.specs.Answers.{stream_tile, stream_of, located_tile_of}
 
-kept : (b : Bool) (t : Tile) → listed_of (listed (only_if b t)) ≡ cond b (Some (stream_of t ∷ [])) None
+kept : (b : Bool) (t : Tile) → located_tile_of (only_if b t) ≡ cond b (Some (stream_of t)) None
 kept true t = refl
 kept false t = refl
 
 -- a stream that is of the frame's size
-abbrev of_size : ℕ → ℕ → TileStream → Option (List TileStream)
-of_size w h t = cond (eqb t.width w && eqb t.height h) (Some (t ∷ [])) None
+abbrev of_size : ℕ → ℕ → TileStream → Option TileStream
+of_size w h t = cond (eqb t.width w && eqb t.height h) (Some t) None
 
-lone : (valid fitting : Bool) (t : Tile) (w h : ℕ) → listed_of (listed (only_if (valid && fitting && eqb t.width w && eqb t.height h) t))
+lone : (valid fitting : Bool) (t : Tile) (w h : ℕ) → located_tile_of (only_if (valid && fitting && eqb t.width w && eqb t.height h) t)
     ≡ option_and_then (of_size w h) (located_tile_of (only_if (valid && true && fitting) t))
 lone true true t w h = kept (eqb t.width w && eqb t.height h) t
 lone true false t w h = refl
 lone false fitting t w h = refl
 
 -- offset 512 alone: the stream there, if it is of the frame's size
-pub alone_is : (s : List ℕ) (w h : ℕ) → listed_of (listed (alone s w h)) ≡ option_and_then (of_size w h) (located_tile_of (stream_tile s 512 0))
+pub alone_is : (s : List ℕ) (w h : ℕ) → located_tile_of (alone s w h) ≡ option_and_then (of_size w h) (located_tile_of (stream_tile s 512 0))
 unfolding alone stream_tile
 alone_is s w h =
     let d = drop 512 s in

@@ -99,6 +99,10 @@ decides true (Some t) None rest = refl
 decides true None r rest = refl
 decides false o r rest = refl
 
+listed_one : (o : Option Tile) → listed_of (listed o) ≡ option_map (λ t. t ∷ []) (located_tile_of o)
+listed_one (Some t) = refl
+listed_one None = refl
+
 module _ (strip : List ℕ) (w h : ℕ) where
   table_decides : (n : ℕ) (rest : List Tile) → listed_of (table_or (cond (has_table n) (entry_tiles strip w h 0 n) None) rest)
       ≡ option_or (listed_of (table_or (cond (has_table n) (entry_tiles strip w h 0 n) None) [])) (listed_of rest)
@@ -107,9 +111,11 @@ module _ (strip : List ℕ) (w h : ℕ) where
   table_decides (suc n) rest = decides (has_table (suc n)) (entry_tile strip w h 0) (entry_tiles strip w h 1 n) rest
 
   -- the tiles of the table; where there are none, offset 512 alone
-  pub found_is : w ≢ 0 → h ≢ 0 → 640 ≤ length strip → listed_of (tiles_of strip w h) ≡ option_or (listed_of (table_tiles strip w h)) (listed_of (listed (alone strip w h)))
+  pub found_is : w ≢ 0 → h ≢ 0 → 640 ≤ length strip
+      → listed_of (tiles_of strip w h) ≡ option_or (listed_of (table_tiles strip w h)) (option_map (λ t. t ∷ []) (located_tile_of (alone strip w h)))
   unfolding tiles_of table_tiles
-  found_is wide high long = rw (ne_eqb w 0 wide, ne_eqb h 0 high, le-ltb (length strip) 640 long) (table_decides (little32 strip 0) (listed (alone strip w h)))
+  found_is wide high long =
+      rw (ne_eqb w 0 wide, ne_eqb h 0 high, le-ltb (length strip) 640 long, ← listed_one (alone strip w h)) (table_decides (little32 strip 0) (listed (alone strip w h)))
 
 -- ---- how many tiles there are
 

@@ -260,13 +260,16 @@ impl<'a> Frame<'a> {
         }
     }
 
-    // The stream at a byte, if its header is valid and a payload of so many bytes at least lies within the strip.
+    // The stream at a byte, if its header is valid and a payload of so many bytes at least lies within the strip. Inlined, since a call for each
+    // candidate doubles the search's time.
     #[tactic(auto, unfolding(crate::specs::Answers::stream_tile, format::specs::Strip::valid_header))]
+    #[inline(always)]
     fn stream_at(&self, at: usize, least: usize) -> Option<TileStream>
+        requires { at ≤ length self.now.strip.now }
         ensures value { result ≡ located_tile_of (stream_tile self.now.strip.now at least) }
         ensures upper_bound { IfSome result (λ t. (t.width < 2 ^ 16) × (t.height < 2 ^ 17)) }
     {
-        let stream = self.strip.get(at..)?;
+        let stream = &self.strip[at..];
         let start = Start::of(stream)?;
         let size = start.header().ok()?;
         let payload = start.payload();
@@ -299,7 +302,7 @@ impl<'a> Frame<'a> {
     // The tile of entry i at one position.
     #[tactic(auto, unfolding(format::specs::Strip::candidate, format::specs::Strip::fits, crate::specs::Answers::stream_tile, crate::specs::Answers::placed))]
     fn candidate(&self, i: usize, at: usize) -> Option<TileStream>
-        requires { i < 16 }
+        requires { (i < 16) × (at ≤ length self.now.strip.now) }
         ensures { result ≡ located_tile_of (candidate self.now.strip.now self.now.width self.now.height i at) }
     {
         let tile = self.stream_at(at, 1)?;
@@ -344,14 +347,14 @@ impl<'a> Frame<'a> {
 
     // Offset 512 tried alone.
     #[tactic(auto, using(crate::proofs::Search::alone_is))]
-    fn alone(&self) -> Option<Tiles>
-        ensures { result ≡ listed_of (listed (alone self.now.strip.now self.now.width self.now.height)) }
+    fn alone(&self) -> Option<TileStream>
+        ensures { result ≡ located_tile_of (alone self.now.strip.now self.now.width self.now.height) }
     {
         let tile = self.stream_at(TileStream::OFFSET, 0)?;
         if tile.width != self.width || tile.height != self.height {
             return None;
         }
-        Some(Tiles::one(tile))
+        Some(tile)
     }
 }
 
@@ -368,10 +371,11 @@ pub fn find_streams(strip: &[u8], full_w: usize, full_h: usize) -> Result<Tiles,
         width: full_w,
         height: full_h,
     };
-    match frame.table_tiles() {
-        Some(tiles) => Ok(tiles),
-        None => frame.alone().ok_or(Refusal::NoTile),
+    if let Some(tiles) = frame.table_tiles() {
+        return Ok(tiles);
     }
+    let tile = frame.alone().ok_or(Refusal::NoTile)?;
+    Ok(Tiles::one(tile))
 }
 
 // How many tiles a strip has.
