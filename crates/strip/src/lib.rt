@@ -2,7 +2,7 @@
 #![tactic(auto)]
 
 ghost use Rattle.std.specs.Prelude.{⊤, ◌≡◌, ◌&&◌, ◌+◌, ◌^◌, ◌<◌, ◌≤◌, List, [], ◌∷◌, ◌++◌, MatchOption, IfSome, eqb, length, get_or, slice_get};
-ghost use Rattle.format.specs.Strip.{valid_header, magic, sides, marks, payload, unless0, word, entry_start, candidate, entry_tile, alone, listed, tiles_of};
+ghost use Rattle.format.specs.Strip.{valid_header, magic, sides, marks, payload, unless0, word, entry_start, candidate, entry_tile, alone, tiles_of};
 ghost use Rattle.strip.specs.Answers.{HeaderSays, stream_tile, located_tile_of, placed, listed_of, located_of, table_tiles, stream_fields, tile_field};
 
 use arrayvec::ArrayVec;
@@ -260,10 +260,8 @@ impl<'a> Frame<'a> {
         }
     }
 
-    // The stream at a byte, if its header is valid and a payload of so many bytes at least lies within the strip. Inlined, since a call for each
-    // candidate doubles the search's time.
+    // The stream at a byte, if its header is valid and a payload of so many bytes at least lies within the strip.
     #[tactic(auto, unfolding(crate::specs::Answers::stream_tile, format::specs::Strip::valid_header))]
-    #[inline(always)]
     fn stream_at(&self, at: usize, least: usize) -> Option<TileStream>
         requires { at ≤ length self.now.strip.now }
         ensures value { result ≡ located_tile_of (stream_tile self.now.strip.now at least) }
