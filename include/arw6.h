@@ -1,4 +1,5 @@
 /* Tiles of Sony's ARW6 strips. Link with target/staticlib/libarw6.a, which `tools/staticlib arw6` writes.
+   It asks for no name but memcpy and memset.
 
    Every function takes any bytes, sizes and lengths, keeps no pointer after it returns, allocates nothing and ends. A pointer must be valid
    for its length, also where that is 0, and the slices of one call must not overlap.

@@ -1,7 +1,7 @@
 // The stream header and the locator of tiles in a strip: document 01, 'Strip'.
 #![tactic(auto)]
 
-ghost use Rattle.std.specs.Prelude.{⊤, ◌≡◌, ◌&&◌, ◌+◌, ◌^◌, ◌<◌, ◌≤◌, List, [], ◌∷◌, ◌++◌, MatchOption, IfSome, eqb, length, get_or, slice_get};
+ghost use Rattle.std.specs.Prelude.{⊤, ◌≡◌, ◌+◌, ◌^◌, ◌<◌, ◌≤◌, List, [], ◌∷◌, ◌++◌, MatchOption, IfSome, eqb, length, get_or, slice_get};
 ghost use Rattle.format.specs.Strip.{valid_header, magic, sides, marks, payload, unless0, word, entry_start, candidate, entry_tile, alone, tiles_of};
 ghost use Rattle.strip.specs.Answers.{HeaderSays, stream_tile, located_tile_of, placed, listed_of, located_of, table_tiles, stream_fields, tile_field};
 
